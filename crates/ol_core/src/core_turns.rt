@@ -1,0 +1,396 @@
+//! The engine.
+
+ghost use Rattle.std.specs.Prelude.{◌≡◌, ◌++◌, ◌∷◌, [], ◌+◌, ◌/◌, ◌%◌, ◌^◌, ◌<◌, ◌≤◌, length, OnOk, OnErr, IfOk, codes, vec_len, vec_capacity};
+ghost use Rattle.std.specs.Prelude.{ℕ, ◌≢◌, replicate, slice_index_or, Some, None};
+ghost use Rattle.ol_model.specs.declared.record.Record.TheVariants.{Change};
+ghost use Rattle.ol_model.specs.Image.{IsPage, page_bytes, with_slot};
+ghost use Rattle.ol_model.specs.Journal.{Page};
+ghost use Rattle.ol_core.specs.Core.{entry_of, pages_used, slot_at};
+
+use crate::running::Running;
+use ol_model::{By, Entry, Event, History, Label, Labels, NoMemory, Record, Reply, Rid, Row, Why};
+use ol_page::{PAGE_LENGTH, set_slot, stamp};
+use std::alloc::Global;
+use std::marker::Model;
+
+/// The data pages of data1.
+const PAGES: usize = 8;
+
+/// The number of the space data1.
+const DATA: u8 = 1;
+
+/// The slots of a page.
+const SLOTS: u32 = 31;
+
+/// The engine over pages in memory: one session works, and one archiver.
+pub struct Core {
+    journal: Vec<Record>,
+    txn: Option<u64>,
+    registers: [Option<Rid>; 10],
+    pages: Vec<[u8; PAGE_LENGTH]>,
+    rows: u32,
+    next_archive: u64,
+    archive: Option<Running>,
+    history: History,
+}
+
+impl Model for Core {
+    ghost use Rattle.std.specs.Prelude.{List};
+    ghost use Rattle.ol_core.specs.Core.{Seen, machine_in, IsKept};
+
+    ghost Value = { Seen };
+
+    ghost view = { λ e. record { machine = machine_in e.journal.items e.txn e.registers e.next_archive e.archive; history = e.history } };
+
+    ghost invariant = { λ e. IsKept e.journal.items e.txn e.pages.items e.rows e.next_archive e.archive e.history };
+}
+
+/// The images of the pages of data1 before any was changed.
+fn blank_pages(alloc: Global) -> Result<Vec<[u8; PAGE_LENGTH]>, NoMemory>
+    ensures { IfOk result (λ pages. pages.items ≡ replicate 8 (replicate 2048 0)) }
+{
+    let mut pages = Vec::new(alloc);
+    pages.resize(PAGES, [0; PAGE_LENGTH])?;
+    Ok(pages)
+}
+
+/// How many pages so many rows lie on, the slots of each page filled in order.
+fn pages_of(rows: u32) -> u32
+    requires { rows ≤ 248 }
+    ensures { result ≡ pages_used rows }
+{
+    rows.div_ceil(SLOTS)
+}
+
+/// The place of slot `i` of data1, over all its pages.
+fn slot_of(i: u32) -> Rid
+    requires { i < 248 }
+    ensures { result ≡ slot_at i }
+{
+    Rid {
+        space: DATA,
+        page: (i / SLOTS) as u16,
+        slot: (i % SLOTS) as u8,
+    }
+}
+
+/// The record of a row that goes into an empty slot.
+fn inserted(txn: u64, rid: Rid, row: &Row) -> Record
+    ensures { result ≡ Change txn rid None (Some row.now) }
+{
+    Record::Change {
+        txn,
+        rid,
+        before: None,
+        after: Some(row.copy()),
+    }
+}
+
+/// Puts a row into slot `i`, over all these pages, and the stamp on its page.
+fn put_row(pages: &mut [[u8; PAGE_LENGTH]], i: u32, row: &Row, stamp: u64)
+    requires { i / 31 < length pages.old }
+    ensures others { (k : ℕ) → k ≢ i / 31 → slice_index_or pages.new k [] ≡ slice_index_or pages.old k [] }
+    ensures image { (p : Page) → IsPage p → slice_index_or pages.old (i / 31) [] ≡ page_bytes p → slice_index_or pages.new (i / 31) [] ≡ page_bytes (with_slot p (i % 31) (Some row.now) stamp) }
+{
+    let image = &mut pages[(i / SLOTS) as usize];
+    set_slot(image, (i % SLOTS) as u8, Some(row.copy()), stamp);
+}
+
+/// Appends an entry.
+fn answer(history: &mut History, by: By, event: Event, reply: &Reply) -> Result<(), NoMemory>
+    ensures ok { OnOk result (history.new ≡ history.old ++ entry_of (length history.old + 1) by event reply.now ∷ []) }
+    ensures err { OnErr result (history.new ≡ history.old) }
+    ensures bound { length history.old < 2 ^ 63 }
+{
+    let number = history.as_slice().len() as u64 + 1;
+    history.push(Entry {
+        number,
+        actor: by.actor,
+        line: by.line,
+        event,
+        reply: reply.copy(),
+        start: 0,
+        calls: 0,
+    })
+}
+
+/// Appends a record, for which there is room.
+fn append(journal: &mut Vec<Record>, added: Record)
+    requires { vec_len journal.old < vec_capacity journal.old }
+    ensures { journal.new.items ≡ journal.old.items ++ added ∷ [] }
+{
+    let Ok(()) = journal.push(added) else {
+        unreachable!();
+    };
+}
+
+impl Core {
+    ghost use Rattle.ol_model.specs.declared.history.Actor.TheVariants.{Session, Archiver};
+    ghost use Rattle.ol_model.specs.declared.event.Event.TheVariants.{Begin as BeginTurn, Insert as InsertTurn, Commit as CommitTurn, ArchiveStart, ArchiveTurn, ArchiveEnd, ArchiveCancel};
+    ghost use Rattle.ol_core.specs.Core.{Takes, IsIdle, IsHere, ShowsCount, archive_in};
+    ghost use Rattle.ol_core.specs.Initial.{both_names, initial};
+    ghost use Rattle.ol_model.specs.Journal.{page_at};
+    ghost use Rattle.ol_model.specs.Machine.{archive_of, journal_in};
+    ghost use Rattle.std.specs.Option.{option_map};
+    ghost use Rattle.std.specs.Prelude.{IfSome};
+
+    /// The core of the initial installation, with the empty journal. It takes the memory for its pages.
+    pub fn new(alloc: Global) -> Result<Core, NoMemory>
+        ensures { IfOk result (λ c. c ≡ record { machine = initial; history = [] }) }
+    {
+        let pages = blank_pages(alloc)?;
+        Ok(Core {
+            journal: Vec::new(alloc),
+            txn: None,
+            registers: [None; 10],
+            pages,
+            rows: 0,
+            next_archive: 1,
+            archive: None,
+            history: History::new(alloc),
+        })
+    }
+
+    /// A transaction begins.
+    pub fn begin(&mut self, by: By) -> Result<Reply, NoMemory>
+        requires actor { by.actor ≡ Session 1 }
+        requires idle { IsIdle self.old }
+        ensures ok { IfOk result (λ reply. Takes self.old by BeginTurn reply self.new) }
+        ensures err { OnErr result (self.new ≡ self.old) }
+    {
+        if self.txn.is_some() {
+            let reply = Reply::TxnOpen;
+            answer(&mut self.history, by, Event::Begin, &reply)?;
+            return Ok(reply);
+        }
+        self.journal.reserve(1)?;
+        let txn = self.journal.len() as u64 + 1;
+        let reply = Reply::Begun { txn };
+        answer(&mut self.history, by, Event::Begin, &reply)?;
+        append(&mut self.journal, Record::Begin { txn });
+        self.txn = Some(txn);
+        Ok(reply)
+    }
+
+    /// A row goes into the least empty slot of data1, of which register `reg` (0 to 9) then tells.
+    pub fn insert(&mut self, by: By, reg: u8, space: &Label, row: &Row) -> Result<Reply, NoMemory>
+        requires actor { by.actor ≡ Session 1 }
+        requires idle { IsIdle self.old }
+        requires register { reg < 10 }
+        requires place { space.now ≡ codes "data1" }
+        ensures ok { IfOk result (λ reply. Takes self.old by (InsertTurn reg space.now row.now) reply self.new) }
+        ensures err { OnErr result (self.new ≡ self.old) }
+    {
+        let event = Event::Insert {
+            reg,
+            space: space.copy(),
+            row: row.copy(),
+        };
+        let Some(txn) = self.txn else {
+            let reply = Reply::NoTxn;
+            answer(&mut self.history, by, event, &reply)?;
+            return Ok(reply);
+        };
+        if self.rows == SLOTS * PAGES as u32 {
+            let reply = Reply::SpaceFull { space: DATA };
+            answer(&mut self.history, by, event, &reply)?;
+            return Ok(reply);
+        }
+        self.journal.reserve(1)?;
+        let rid = slot_of(self.rows);
+        let reply = Reply::At { rid };
+        answer(&mut self.history, by, event, &reply)?;
+        let stamp = self.journal.len() as u64 + 1;
+        append(&mut self.journal, inserted(txn, rid, row));
+        put_row(&mut self.pages, self.rows, row, stamp);
+        self.registers[reg as usize] = Some(rid);
+        self.rows += 1;
+        Ok(reply)
+    }
+
+    /// The session's transaction is committed.
+    pub fn commit(&mut self, by: By) -> Result<Reply, NoMemory>
+        requires actor { by.actor ≡ Session 1 }
+        requires idle { IsIdle self.old }
+        ensures ok { IfOk result (λ reply. Takes self.old by CommitTurn reply self.new) }
+        ensures err { OnErr result (self.new ≡ self.old) }
+    {
+        let Some(txn) = self.txn else {
+            let reply = Reply::NoTxn;
+            answer(&mut self.history, by, Event::Commit, &reply)?;
+            return Ok(reply);
+        };
+        self.journal.reserve(1)?;
+        let position = self.journal.len() as u64 + 1;
+        let reply = Reply::Committed { position };
+        answer(&mut self.history, by, Event::Commit, &reply)?;
+        append(&mut self.journal, Record::Commit { txn });
+        self.txn = None;
+        Ok(reply)
+    }
+
+    /// An archive of level 0 of both spaces begins.
+    pub fn archive_start(&mut self, by: By, spaces: &Labels) -> Result<Reply, NoMemory>
+        requires actor { by.actor ≡ Archiver 1 }
+        requires both { spaces.now ≡ both_names }
+        ensures ok { IfOk result (λ reply. Takes self.old by (ArchiveStart 0 spaces.now) reply self.new) }
+        ensures err { OnErr result (self.new ≡ self.old) }
+    {
+        let event = Event::ArchiveStart {
+            level: 0,
+            spaces: spaces.copy(),
+        };
+        if self.archive.is_some() {
+            let reply = Reply::Archiving { archiver: 1 };
+            answer(&mut self.history, by, event, &reply)?;
+            return Ok(reply);
+        }
+        let number = self.next_archive;
+        let cut = self.journal.len() as u64;
+        let low = self.txn.unwrap_or(cut + 1);
+        let pages = pages_of(self.rows);
+        let reply = Reply::Started { number, cut, pages };
+        answer(&mut self.history, by, event, &reply)?;
+        self.archive = Some(Running {
+            number,
+            cut,
+            low,
+            passed: 0,
+        });
+        self.next_archive += 1;
+        Ok(reply)
+    }
+
+    /// The running archive takes its next page.
+    pub fn archive_turn(&mut self, by: By) -> Result<Reply, NoMemory>
+        requires actor { by.actor ≡ Archiver 1 }
+        ensures ok { IfOk result (λ reply. Takes self.old by ArchiveTurn reply self.new) }
+        ensures there { IfOk result IsHere }
+        ensures err { OnErr result (self.new ≡ self.old) }
+    {
+        let Some(archive) = self.archive else {
+            let reply = Reply::NoArchive;
+            answer(&mut self.history, by, Event::ArchiveTurn, &reply)?;
+            return Ok(reply);
+        };
+        if archive.passed == pages_of(self.rows) {
+            let reply = Reply::AllTaken;
+            answer(&mut self.history, by, Event::ArchiveTurn, &reply)?;
+            return Ok(reply);
+        }
+        let reply = Reply::PageIs {
+            space: DATA,
+            page: archive.passed as u16,
+        };
+        answer(&mut self.history, by, Event::ArchiveTurn, &reply)?;
+        self.archive = Some(Running {
+            passed: archive.passed + 1,
+            ..archive
+        });
+        Ok(reply)
+    }
+
+    /// The running archive, whose pages have all passed, ends.
+    pub fn archive_end(&mut self, by: By) -> Result<Reply, NoMemory>
+        requires actor { by.actor ≡ Archiver 1 }
+        ensures ok { IfOk result (λ reply. Takes self.old by ArchiveEnd reply self.new) }
+        ensures err { OnErr result (self.new ≡ self.old) }
+    {
+        let Some(archive) = self.archive else {
+            let reply = Reply::NoArchive;
+            answer(&mut self.history, by, Event::ArchiveEnd, &reply)?;
+            return Ok(reply);
+        };
+        let count = pages_of(self.rows) - archive.passed;
+        if count > 0 {
+            let reply = Reply::PagesLeft { count };
+            answer(&mut self.history, by, Event::ArchiveEnd, &reply)?;
+            return Ok(reply);
+        }
+        let reply = Reply::Archived {
+            number: archive.number,
+            cut: archive.cut,
+            pages: archive.passed,
+        };
+        answer(&mut self.history, by, Event::ArchiveEnd, &reply)?;
+        self.archive = None;
+        Ok(reply)
+    }
+
+    /// The running archive is given up. `faults` is the count that its drive shows.
+    pub fn archive_cancel(&mut self, by: By, why: Why, faults: u64) -> Result<Reply, NoMemory>
+        requires actor { by.actor ≡ Archiver 1 }
+        ensures ok { IfOk result (λ reply. Takes self.old by (ArchiveCancel why) reply self.new) }
+        ensures count { IfOk result (ShowsCount faults) }
+        ensures err { OnErr result (self.new ≡ self.old) }
+    {
+        let event = Event::ArchiveCancel { why };
+        let Some(archive) = self.archive else {
+            let reply = Reply::NoArchive;
+            answer(&mut self.history, by, event, &reply)?;
+            return Ok(reply);
+        };
+        let reply = match why {
+            Why::Asked => Reply::Cancelled {
+                number: archive.number,
+            },
+            Why::Fault { since: _ } => Reply::TapeFault {
+                drive: 1,
+                count: faults,
+            },
+            Why::Full => Reply::OutOfTape { drive: 1 },
+        };
+        answer(&mut self.history, by, event, &reply)?;
+        self.archive = None;
+        Ok(reply)
+    }
+
+    /// The image of a page of data1.
+    pub fn image(&self, page: u16) -> &[u8; PAGE_LENGTH]
+        requires { page < 8 }
+        ensures image { result.now ≡ page_bytes (page_at (journal_in self.now.machine) 1 page) }
+        ensures whole { length result.now ≡ 2048 }
+    {
+        &self.pages[page as usize]
+    }
+
+    /// The stamp of a page of data1.
+    pub fn stamp(&self, page: u16) -> u64
+        requires { page < 8 }
+        ensures { result ≡ (page_at (journal_in self.now.machine) 1 page).stamp }
+    {
+        stamp(&self.pages[page as usize])
+    }
+
+    /// The running archive.
+    pub fn running(&self) -> Option<Running>
+        ensures value { option_map archive_in result ≡ archive_of self.now.machine 1 }
+        ensures still { IfSome result (λ a. a.cut ≡ length (journal_in self.now.machine)) }
+    {
+        self.archive
+    }
+
+    /// The turns so far.
+    pub fn history(&self) -> &History
+        ensures { result.now ≡ self.now.history }
+    {
+        &self.history
+    }
+
+    /// Hands the history back.
+    pub fn into_history(self) -> History
+        ensures { result ≡ self.history }
+    {
+        let Core {
+            journal: _,
+            txn: _,
+            registers: _,
+            pages: _,
+            rows: _,
+            next_archive: _,
+            archive: _,
+            history,
+        } = self;
+        history
+    }
+}

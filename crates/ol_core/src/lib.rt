@@ -1,0 +1,10 @@
+//! The core of the engine: it takes turns, one after the other, each a step of the machine that the
+//! definitions state, and keeps their history. One session works in it so far, and one archiver, on data
+//! pages in memory.
+#![tactic(auto)]
+
+mod core_turns;
+mod running;
+
+pub use core_turns::Core;
+pub use running::Running;

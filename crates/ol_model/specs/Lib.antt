@@ -1,0 +1,15 @@
+pub mod Held
+pub mod Config
+pub mod Journal
+pub mod Image
+pub mod Transactions
+pub mod Saveset
+pub mod Blocks
+pub mod Machine
+pub mod Sessions
+pub mod Archivers
+pub mod Turns
+pub mod Lines
+pub mod History
+pub mod Text
+pub mod Tape

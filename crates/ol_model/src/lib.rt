@@ -1,0 +1,19 @@
+//! The values that all layers of the engine share, and the definitions that their contracts speak of.
+#![tactic(auto)]
+
+mod event;
+mod history;
+mod label;
+mod line;
+mod record;
+mod row;
+
+pub use event::{Event, Reply, Why};
+pub use history::{Actor, By, Entry, History, Opened, Told};
+pub use label::{LABEL_LIMIT, Label, Labels, NAMES_LIMIT};
+pub use line::{Form, Line, Lines};
+pub use record::{Record, Rid};
+pub use row::{ROW_LIMIT, Row};
+
+/// Memory was refused.
+pub type NoMemory = std::alloc::AllocError;

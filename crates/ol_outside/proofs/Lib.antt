@@ -1,0 +1,3 @@
+mod CountSteps
+pub mod LastVolume
+mod Pieces
