@@ -1,10 +1,9 @@
 -- What is kept of the empty journal.
-use Rattle.std.specs.Prelude.{List, None, Option, [], false, length, nat_le, nat_lt, replicate, slice_index_or, suc, true, zero, ℕ, ◌*◌, ◌<◌, ◌∷◌, ◌≡◌, refl}
+use Rattle.std.specs.Prelude.{List, None, [], length, replicate, slice_index_or, suc, zero, ℕ, ◌<◌, ◌≡◌, refl}
 use Rattle.std.proofs.Common.{ap, arith, subst, sym, ◌∙◌}
 use Rattle.std.proofs.lemmas.Bool.Decides.{nat_tests}
-use Rattle.std.proofs.lemmas.List.{length-replicate}
 use Rattle.ol_model.specs.Image.{IsPage, page_bytes}
-use Rattle.ol_model.specs.Journal.{Page, blank, page_at, page_from}
+use Rattle.ol_model.specs.Journal.{blank, page_at, page_from}
 use Rattle.ol_page.proofs.Slots.{blank_bytes, blank_page}
 use Rattle.ol_core.specs.Core.{IsKept}
 

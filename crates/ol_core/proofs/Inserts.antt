@@ -1,12 +1,11 @@
 -- A row more on the pages of data1: what an insert answers, and what the core keeps true after it.
 use Rattle.std.specs.List.{range_with_len}
 use Rattle.std.specs.Option.{option_map}
-use Rattle.std.specs.Prelude.{Bool, IfSome, List, None, Option, Some, [], codes, drop, false, find, if◌then◌else◌, is_none, length, map, nat_le, nat_lt, replicate, slice_index_or, slice_set, suc, take, true, zero, ℕ, ◌%◌, ◌&&◌, ◌*◌, ◌++◌, ◌+◌, ◌-◌, ◌/◌, ◌<◌, ◌==◌, ◌^◌, ◌∷◌, ◌≡◌, ◌≢◌, ◌≤◌, refl}
+use Rattle.std.specs.Prelude.{Bool, List, None, Option, Some, [], codes, drop, false, find, if◌then◌else◌, is_none, length, map, nat_le, nat_lt, replicate, slice_index_or, slice_set, suc, take, true, zero, ℕ, ◌%◌, ◌&&◌, ◌*◌, ◌++◌, ◌+◌, ◌/◌, ◌<◌, ◌==◌, ◌^◌, ◌∷◌, ◌≡◌, ◌≢◌, ◌≤◌, refl}
 use Rattle.std.proofs.Common.{ap, arith, eq-eqb, length-append, subst, sym, ◌∙◌}
 use Rattle.std.proofs.lemmas.Bool.{eqb-true}
 use Rattle.std.proofs.lemmas.Bool.Decides.{nat_tests}
 use Rattle.std.proofs.lemmas.List.{append-nil, drop_all, take_all}
-use Rattle.ol_model.specs.declared.event.Reply.{Reply}
 use Rattle.ol_model.specs.declared.event.Reply.TheVariants.{At, SpaceFull}
 use Rattle.ol_model.specs.declared.history.Entry.{Entry}
 use Rattle.ol_model.specs.declared.record.Record.{Record}
@@ -15,7 +14,7 @@ use Rattle.ol_model.specs.declared.record.Rid.{Rid}
 use Rattle.ol_model.specs.declared.row.Row.{Row}
 use Rattle.ol_model.specs.Image.{IsPage, page_bytes, with_slot}
 use Rattle.ol_model.specs.Journal.{Page, page_at, row_at, same_place, stamp_after, stamp_at, touches}
-use Rattle.ol_model.specs.Machine.{Machine, first_free}
+use Rattle.ol_model.specs.Machine.{first_free}
 use Rattle.ol_model.specs.Sessions.{insert_at, insert_turn}
 use Rattle.ol_model.proofs.JournalLaws.{page_at-changed, page_at-untouched, row_at-push, stamp_at-push}
 use Rattle.ol_page.proofs.Slots.{with_slot_page}

@@ -1,20 +1,19 @@
 -- What the core keeps true, after a record more.
-use Rattle.std.specs.Prelude.{Bool, List, None, Option, Some, [], false, filter, fold, if◌then◌else◌, is_none, is_some, length, map, nat_le, nat_lt, not, option_to_list, replicate, slice_index_or, slice_set, true, ℕ, ◌%◌, ◌&&◌, ◌*◌, ◌++◌, ◌+◌, ◌-◌, ◌/◌, ◌<◌, ◌==◌, ◌^◌, ◌∷◌, ◌≡◌, ◌≢◌, ◌≤◌, refl, IfSome}
+use Rattle.std.specs.Prelude.{List, None, Option, Some, [], false, if◌then◌else◌, is_none, is_some, map, nat_lt, option_to_list, replicate, true, ℕ, ◌++◌, ◌==◌, ◌∷◌, ◌≡◌, refl}
 use Rattle.std.specs.Option.{option_map}
 use Rattle.std.proofs.Common.{ap, arith, eq-eqb, subst, sym, ◌∙◌, length-append}
-use Rattle.std.proofs.lemmas.Bool.{eqb-true}
 use Rattle.std.proofs.lemmas.List.Sums.{fold-append}
 use Rattle.ol_model.specs.declared.history.Entry.{Entry}
 use Rattle.ol_model.specs.declared.record.Record.{Record}
-use Rattle.ol_model.specs.declared.record.Record.TheVariants.{Begin as BeginRecord, Change, Commit as CommitRecord}
+use Rattle.ol_model.specs.declared.record.Record.TheVariants.{Begin as BeginRecord, Commit as CommitRecord}
 use Rattle.ol_model.specs.declared.record.Rid.{Rid}
 use Rattle.ol_model.specs.declared.row.Row.{Row}
-use Rattle.ol_model.specs.Image.{IsPage, page_bytes, with_slot}
-use Rattle.ol_model.specs.Journal.{page_at, row_after, row_at, stamp_after, stamp_at, touches}
+use Rattle.ol_model.specs.Image.{IsPage, page_bytes}
+use Rattle.ol_model.specs.Journal.{row_after, row_at, stamp_at, touches}
 use Rattle.ol_model.specs.Transactions.{Txn, at_txn, begun, open_at, txns_after, with_change, without_txn}
-use Rattle.ol_model.proofs.JournalLaws.{page_at-changed, page_at-untouched, row_at-push, stamp_at-push}
+use Rattle.ol_model.proofs.JournalLaws.{page_at-untouched, row_at-push, stamp_at-push}
 use Rattle.ol_core.specs.declared.running.Running.{Running}
-use Rattle.ol_core.specs.Core.{IsKept, archive_in, IsStill, pages_used, slot_at}
+use Rattle.ol_core.specs.Core.{IsKept, archive_in, slot_at}
 
 -- ---- open transactions
 

@@ -1,7 +1,6 @@
 -- The pages of an archive of both spaces: those pages of data1 that rows lie on.
 use Rattle.std.specs.List.{range_with_len}
-use Rattle.std.specs.Option.{option_map}
-use Rattle.std.specs.Prelude.{Bool, List, None, Option, Some, [], drop, false, filter, flat_map, length, map, nat_lt, suc, take, true, zero, ℕ, ◌*◌, ◌++◌, ◌+◌, ◌-◌, ◌/◌, ◌<◌, ◌∷◌, ◌≡◌, ◌≢◌, ◌≤◌, refl}
+use Rattle.std.specs.Prelude.{Bool, IfSome, List, None, Option, Some, [], drop, false, filter, length, map, nat_lt, suc, true, zero, ℕ, ◌*◌, ◌++◌, ◌+◌, ◌-◌, ◌<◌, ◌∷◌, ◌≡◌, ◌≢◌, ◌≤◌, refl}
 use Rattle.std.proofs.Common.{ap, arith, subst, sym, ◌∙◌}
 use Rattle.std.proofs.lemmas.Bool.Decides.{nat_tests}
 use Rattle.std.proofs.lemmas.List.{append-nil, take_all}
@@ -127,3 +126,8 @@ pub end_done : {j : List Record} {txn : Option ℕ} {pages : List (List ℕ)} {r
 end_done {j} {txn} {pages} {rows} {next} {h} regs a k none =
     let m = machine_in j txn regs next (Some a) in
     ap (λ (l : List (ℕ × ℕ)). end_with m 1 (archive_in a) (length l)) (left_of-kept regs a k ∙ none_left a.passed (pages_used rows - a.passed) (omega arith))
+
+-- a running archive has at most the pages of data1
+pub few_passed : {j : List Record} {txn : Option ℕ} {pages : List (List ℕ)} {rows next : ℕ} {h : List Entry} (arch : Option Running) → IsKept j txn pages rows next arch h → IfSome arch (λ a. a.passed ≤ 8)
+few_passed None k = tt
+few_passed (Some a) k = omega (arith, k.still.1, k.room)

@@ -1,6 +1,5 @@
 -- The start of an archive of both spaces.
-use Rattle.std.specs.Prelude.{List, None, Option, Some, [], false, is_some, length, map, option_to_list, take, true, unwrap_or, ℕ, ◌+◌, ◌∷◌, ◌≡◌, refl}
-use Rattle.std.specs.List.{range_with_len}
+use Rattle.std.specs.Prelude.{List, None, Option, Some, [], false, is_some, length, option_to_list, true, unwrap_or, ℕ, ◌+◌, ◌∷◌, ◌≡◌, refl}
 use Rattle.std.proofs.Common.{ap, arith, sym, ◌∙◌}
 use Rattle.std.proofs.lemmas.List.{take_all}
 use Rattle.std.proofs.lemmas.List.FromFn.{length-map-range_with_len}

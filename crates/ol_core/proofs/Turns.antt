@@ -1,5 +1,5 @@
 -- What a turn answers and leaves, as the contract of a method says it.
-use Rattle.std.specs.Prelude.{List, None, Option, Some, [], codes, false, is_some, length, slice_set, unwrap_or, ℕ, ◌*◌, ◌++◌, ◌+◌, ◌-◌, ◌<◌, ◌∷◌, ◌≡◌, ◌≤◌, refl}
+use Rattle.std.specs.Prelude.{List, None, Option, Some, [], codes, false, is_some, length, slice_set, unwrap_or, ℕ, ◌++◌, ◌+◌, ◌-◌, ◌<◌, ◌∷◌, ◌≡◌, ◌≤◌}
 use Rattle.std.proofs.Common.{ap, subst, sym, ◌∙◌}
 use Rattle.ol_model.specs.declared.event.Event.{Event}
 use Rattle.ol_model.specs.declared.event.Event.TheVariants.{ArchiveEnd, ArchiveStart, ArchiveTurn, Insert as InsertTurn}

@@ -1,16 +1,16 @@
 -- What contracts see of the engine, and what it keeps true.
-use Rattle.std.specs.Prelude.{Bool, List, None, Option, Some, [], is_none, length, map, nat_le, nat_lt, option_to_list, replicate, slice_index_or, ℕ, ◌%◌, ◌*◌, ◌++◌, ◌+◌, ◌/◌, ◌<◌, ◌∷◌, ◌≡◌, ◌≢◌, ◌≤◌}
+use Rattle.std.specs.Prelude.{List, None, Option, Some, [], is_none, length, map, nat_le, nat_lt, option_to_list, replicate, slice_index_or, ℕ, ◌%◌, ◌*◌, ◌++◌, ◌+◌, ◌/◌, ◌<◌, ◌∷◌, ◌≡◌, ◌≢◌, ◌≤◌}
 use Rattle.std.specs.Option.{option_map}
 use Rattle.ol_model.specs.declared.event.Event.{Event}
 use Rattle.ol_model.specs.declared.event.Reply.{Reply}
-use Rattle.ol_model.specs.declared.event.Reply.TheVariants.{AllTaken, Archived, Archiving, At, Begun, Cancelled, Committed, NoArchive, NoSpace, NoTxn, OutOfTape, PageIs, PagesLeft, SpaceFull, Started, TapeFault, TxnOpen}
+use Rattle.ol_model.specs.declared.event.Reply.TheVariants.{PageIs, TapeFault}
 use Rattle.ol_model.specs.declared.history.By.{By}
 use Rattle.ol_model.specs.declared.history.Entry.{Entry}
 use Rattle.ol_model.specs.declared.record.Record.{Record}
 use Rattle.ol_model.specs.declared.record.Rid.{Rid}
 use Rattle.ol_model.specs.Image.{IsPage, page_bytes}
 use Rattle.ol_model.specs.Journal.{page_at, rid_of, row_at, stamp_at}
-use Rattle.ol_model.specs.Machine.{Archive, Machine, Seat, no_seat}
+use Rattle.ol_model.specs.Machine.{Archive, Machine, no_seat}
 use Rattle.ol_model.specs.Transactions.{Txn, open_at}
 use Rattle.ol_model.specs.Turns.{given_by, turn}
 use Rattle.ol_core.specs.declared.running.Running.{Running}

@@ -1,7 +1,7 @@
 -- The installation that each play begins with: newly formatted, with the spaces root and data1.
 use Rattle.std.specs.Prelude.{List, [], codes, ℕ, ◌∷◌}
 use Rattle.ol_model.specs.Config.{Config}
-use Rattle.ol_model.specs.Machine.{Fixed, Machine, formatted}
+use Rattle.ol_model.specs.Machine.{Machine, formatted}
 use Rattle.ol_model.specs.Saveset.{Saved}
 
 -- root with 12 data pages and data1 with 8; root has the physical log of 8 entries and 3 log files of 20 pages

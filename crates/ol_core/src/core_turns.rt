@@ -366,6 +366,7 @@ impl Core {
     pub fn running(&self) -> Option<Running>
         ensures value { option_map archive_in result ≡ archive_of self.now.machine 1 }
         ensures still { IfSome result (λ a. a.cut ≡ length (journal_in self.now.machine)) }
+        ensures few { IfSome result (λ a. a.passed ≤ 8) }
     {
         self.archive
     }

@@ -1,10 +1,10 @@
 -- Runs of lines in file order: they go on by one entry, and their histories are legal.
-use Rattle.std.specs.Prelude.{Bool, List, None, Option, Some, [], drop, false, filter, fold, if◌then◌else◌, length, map, true, ℕ, ◌++◌, ◌+◌, ◌∷◌, ◌≡◌, ◌⊎◌, refl}
-use Rattle.std.proofs.Common.{ap, arith, inl, inr, subst, sym, ◌∙◌}
+use Rattle.std.specs.Prelude.{Bool, List, None, Option, Some, [], false, if◌then◌else◌, map, true, ℕ, ◌++◌, ◌+◌, ◌∷◌, ◌≡◌, ◌⊎◌, refl}
+use Rattle.std.proofs.Common.{ap, inl, inr, subst, sym, ◌∙◌}
 use Rattle.ol_model.specs.declared.history.Actor.{Actor}
 use Rattle.ol_model.specs.declared.history.Entry.{Entry}
 use Rattle.ol_model.specs.declared.line.Line.{Line}
-use Rattle.ol_model.specs.History.{Carries, Happening, IsNext, IsTurnOf, Leads, Legal, Position, Steps, entries_of, first_or, lines_after, lines_of, position_after, position_at, same_actor, start_of, state_after, state_at}
+use Rattle.ol_model.specs.History.{Carries, Happening, IsNext, Leads, Legal, Position, Steps, entries_of, first_or, lines_after, lines_of, position_after, same_actor, start_of, state_after, state_at}
 use Rattle.ol_model.specs.Lines.{First, Outside, Stage, event_at, stage_after}
 use Rattle.ol_model.specs.Machine.{Machine}
 use Rattle.ol_model.specs.Turns.{given_by, turn}

@@ -1,10 +1,9 @@
 -- One record more: what places, stamps and pages are after it.
 use Rattle.std.specs.List.{enumerate_from, range_with_len}
 use Rattle.std.specs.Prelude.{Bool, List, None, Option, [], false, fold, if◌then◌else◌, length, map, true, ℕ, ◌&&◌, ◌++◌, ◌+◌, ◌<◌, ◌==◌, ◌∷◌, ◌≡◌, ◌≤◌, ◌≢◌, refl, slice_index_or, slice_set, suc, zero}
-use Rattle.std.proofs.Common.{ap, sym, ◌∙◌, arith, eq-eqb, subst}
+use Rattle.std.proofs.Common.{ap, sym, ◌∙◌, arith, eq-eqb}
 use Rattle.std.proofs.lemmas.Bool.{eqb-true}
 use Rattle.std.proofs.lemmas.List.Sums.{fold-append}
-use Rattle.std.proofs.lemmas.List.FromFn.{get_or-map-range_with_len}
 use Rattle.ol_model.specs.declared.record.Record.{Record}
 use Rattle.ol_model.specs.declared.record.Record.TheVariants.{Begin as BeginRecord, Change, Commit as CommitRecord, Rolled, Undo}
 use Rattle.ol_model.specs.declared.record.Rid.{Rid}

@@ -1,6 +1,6 @@
 -- What the turns of an archive put on tape: its blocks, from the header on.
-use Rattle.std.specs.Prelude.{List, None, Option, Some, [], drop, flat_map, length, map, refl, suc, take, zero, ℕ, ◌++◌, ◌+◌, ◌<◌, ◌∷◌, ◌≡◌, ◌≤◌}
-use Rattle.std.proofs.Common.{ap, arith, subst, sym, ◌∙◌}
+use Rattle.std.specs.Prelude.{List, [], flat_map, length, refl, suc, take, zero, ℕ, ◌++◌, ◌+◌, ◌∷◌, ◌≡◌, ◌≤◌}
+use Rattle.std.proofs.Common.{ap, arith, ◌∙◌}
 use Rattle.std.proofs.lemmas.Grind.{flat_map-append}
 use Rattle.std.proofs.lemmas.List.{append-nil, take-append-le}
 use Rattle.ol_model.specs.declared.history.Entry.{Entry}

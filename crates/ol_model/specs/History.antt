@@ -1,5 +1,5 @@
 -- Histories: the states along them, the lines that they carry out, and the records that they append.
-use Rattle.std.specs.Prelude.{Bool, List, None, Option, Some, [], drop, filter, fold, length, map, true, ℕ, ◌+◌, ◌<◌, ◌==◌, ◌∷◌, ◌≡◌, false}
+use Rattle.std.specs.Prelude.{Bool, List, None, Option, Some, [], drop, filter, fold, map, true, ℕ, ◌+◌, ◌<◌, ◌==◌, ◌∷◌, ◌≡◌, false}
 use Rattle.ol_model.specs.declared.history.Actor.{Actor}
 use Rattle.ol_model.specs.declared.history.Actor.TheVariants.{Archiver, Backer, Checkpointer, Flusher, Session, Warmer}
 use Rattle.ol_model.specs.declared.history.Entry.{Entry}

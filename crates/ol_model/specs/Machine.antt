@@ -1,6 +1,6 @@
 -- The state of the engine between two turns, and what is read off it.
-use Rattle.std.specs.List.{list_any, range_with_len}
-use Rattle.std.specs.Prelude.{Bool, List, None, Option, [], drop, find, is_none, length, map, replicate, slice_index_or, slice_set, take, ℕ, ◌%◌, ◌*◌, ◌++◌, ◌-◌, ◌/◌, ◌==◌, ◌∷◌}
+use Rattle.std.specs.List.{range_with_len}
+use Rattle.std.specs.Prelude.{List, None, Option, [], drop, find, is_none, length, map, replicate, slice_index_or, slice_set, take, ℕ, ◌%◌, ◌*◌, ◌++◌, ◌-◌, ◌/◌, ◌∷◌}
 use Rattle.ol_model.specs.declared.record.Record.{Record}
 use Rattle.ol_model.specs.declared.record.Rid.{Rid}
 use Rattle.ol_model.specs.Config.{Config, data_pages}

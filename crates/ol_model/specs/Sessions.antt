@@ -6,7 +6,7 @@ use Rattle.ol_model.specs.declared.record.Record.TheVariants.{Begin as BeginReco
 use Rattle.ol_model.specs.declared.record.Rid.{Rid}
 use Rattle.ol_model.specs.declared.row.Row.{Row}
 use Rattle.ol_model.specs.Config.{space_named}
-use Rattle.ol_model.specs.Machine.{Machine, Seat, config_of, first_free, journal_in, last_of, seat_of, with_record, with_seat}
+use Rattle.ol_model.specs.Machine.{Machine, config_of, first_free, journal_in, last_of, seat_of, with_record, with_seat}
 
 -- ---- begin
 

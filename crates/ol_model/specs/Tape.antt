@@ -1,9 +1,9 @@
 -- The blocks that a history's turns put on the drives.
 use Rattle.std.specs.Prelude.{Bool, List, None, Option, Some, [], false, flat_map, if◌then◌else◌, length, option_map, take, unwrap_or, ℕ, ◌++◌, ◌+◌, ◌==◌, ◌∷◌}
 use Rattle.ol_model.specs.declared.event.Reply.{Reply}
-use Rattle.ol_model.specs.declared.event.Reply.TheVariants.{AllTaken, Archived, Archiving, At, Begun, Cancelled, Committed, NoArchive, NoSpace, NoTxn, OutOfTape, PageIs, PagesLeft, SpaceFull, Started, TapeFault, TxnOpen}
+use Rattle.ol_model.specs.declared.event.Reply.TheVariants.{Archived, PageIs, Started}
 use Rattle.ol_model.specs.declared.history.Actor.{Actor}
-use Rattle.ol_model.specs.declared.history.Actor.TheVariants.{Archiver, Backer, Checkpointer, Flusher, Session, Warmer}
+use Rattle.ol_model.specs.declared.history.Actor.TheVariants.{Archiver, Backer}
 use Rattle.ol_model.specs.declared.history.Entry.{Entry}
 use Rattle.ol_model.specs.declared.record.Record.{Record}
 use Rattle.ol_model.specs.Blocks.{ArchiveHead, Block, archive_end, archive_page, header_kind, trailer_kind}

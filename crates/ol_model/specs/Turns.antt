@@ -3,9 +3,9 @@ use Rattle.std.specs.Prelude.{ℕ}
 use Rattle.ol_model.specs.declared.event.Event.{Event}
 use Rattle.ol_model.specs.declared.event.Event.TheVariants.{ArchiveCancel, ArchiveEnd, ArchiveStart, ArchiveTurn, Begin as BeginTurn, Commit as CommitTurn, Insert as InsertTurn}
 use Rattle.ol_model.specs.declared.event.Reply.{Reply}
-use Rattle.ol_model.specs.declared.event.Reply.TheVariants.{AllTaken, Archived, Archiving, At, Begun, Cancelled, Committed, NoArchive, NoSpace, NoTxn, OutOfTape, PageIs, PagesLeft, SpaceFull, Started, TapeFault, TxnOpen}
+use Rattle.ol_model.specs.declared.event.Reply.TheVariants.{TapeFault}
 use Rattle.ol_model.specs.declared.history.Actor.{Actor}
-use Rattle.ol_model.specs.declared.history.Actor.TheVariants.{Archiver, Backer, Checkpointer, Flusher, Session, Warmer}
+use Rattle.ol_model.specs.declared.history.Actor.TheVariants.{Archiver, Session}
 use Rattle.ol_model.specs.Archivers.{cancel_turn, end_turn, start_turn, take_turn}
 use Rattle.ol_model.specs.Machine.{Machine}
 use Rattle.ol_model.specs.Sessions.{begin_turn, commit_turn, insert_turn}

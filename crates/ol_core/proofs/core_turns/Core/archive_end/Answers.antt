@@ -1,4 +1,4 @@
-use Rattle.std.proofs.Common.{arith, refl}
+use Rattle.std.proofs.Common.{arith}
 use Rattle.ol_core.proofs.Turns.{takes_left, takes_end}
 use Rattle.ol_core.proofs.core_turns.Core.archive_end.Goals as goal
 

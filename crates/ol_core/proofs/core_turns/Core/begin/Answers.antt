@@ -1,8 +1,7 @@
 use Rattle.ol_core.proofs.Kept.{kept_begin}
-use Rattle.std.proofs.Common.{ap, sym, ◌∙◌, ◌++◌, ◌∷◌, [], List, ◌≡◌, false, rules, ◌+◌}
+use Rattle.std.proofs.Common.{ap, ◌∙◌, ◌++◌, ◌∷◌, [], List, ◌≡◌, false, ◌+◌}
 use Rattle.std.specs.Option.{is_some}
 use Rattle.ol_core.specs.Core.{Seen}
-use Rattle.ol_model.specs.declared.history.Entry.{Entry}
 use Rattle.ol_model.specs.declared.record.Record.{Record}
 use Rattle.ol_model.specs.declared.record.Record.TheVariants.{Begin}
 use Rattle.ol_core.proofs.core_turns.Core.begin.Goals as goal

@@ -1,11 +1,11 @@
-use Rattle.std.proofs.Common.{ap, sym, ◌∙◌, ◌++◌, ◌∷◌, [], List, arith, length, None, Some, ◌≡◌, ℕ, ◌+◌, ◌%◌, subst, rules}
+use Rattle.std.proofs.Common.{ap, ◌∙◌, ◌++◌, ◌∷◌, [], List, arith, length, None, Some, ◌≡◌, ℕ, ◌+◌, ◌%◌, subst, rules}
 use Rattle.ol_model.specs.Image.{page_bytes, with_slot}
 use Rattle.ol_model.specs.declared.record.Record.{Record}
 use Rattle.ol_model.specs.declared.record.Record.TheVariants.{Change}
 use Rattle.ol_model.specs.declared.record.Rid.{Rid}
 use Rattle.ol_core.proofs.Inserts.{PutsRow, kept_insert, puts_back}
 use Rattle.ol_core.proofs.Turns.{takes_insert, takes_no_room}
-use Rattle.ol_core.specs.Core.{Seen, slot_at}
+use Rattle.ol_core.specs.Core.{Seen}
 use Rattle.ol_core.proofs.core_turns.Core.insert.Goals as goal
 
 pub returns-then-self-clause-ok : goal.returns-then-self-clause-ok

@@ -1,6 +1,6 @@
 -- A worked example: a row is inserted and committed, and an archive of both spaces takes its page. All of it computes.
 use Rattle.std.specs.Fmt.{digits}
-use Rattle.std.specs.Prelude.{List, None, Option, Some, [], codes, drop, length, map, refl, replicate, take, ℕ, ◌++◌, ◌≡◌, ◌∷◌}
+use Rattle.std.specs.Prelude.{List, None, Option, Some, [], codes, map, refl, replicate, ℕ, ◌++◌, ◌≡◌, ◌∷◌}
 use Rattle.ol_model.specs.declared.event.Event.{Event}
 use Rattle.ol_model.specs.declared.event.Event.TheVariants.{ArchiveEnd, ArchiveStart, ArchiveTurn, Begin as BeginTurn, Commit as CommitTurn, Insert as InsertTurn}
 use Rattle.ol_model.specs.declared.event.Reply.{Reply}
@@ -12,15 +12,14 @@ use Rattle.ol_model.specs.declared.line.Form.TheVariants.{Archive as ArchiveLine
 use Rattle.ol_model.specs.declared.line.Line.{Line}
 use Rattle.ol_model.specs.declared.record.Record.{Record}
 use Rattle.ol_model.specs.declared.record.Record.TheVariants.{Begin as BeginRecord, Change, Commit as CommitRecord}
-use Rattle.ol_model.specs.declared.record.Rid.{Rid}
 use Rattle.ol_model.specs.declared.row.Row.{Row}
-use Rattle.ol_model.specs.Blocks.{ArchiveHead, Block, HeadHeld, PageHeld}
+use Rattle.ol_model.specs.Blocks.{Block, HeadHeld, PageHeld}
 use Rattle.ol_model.specs.Config.{Config, config_text}
 use Rattle.ol_model.specs.History.{Happening, Plays, Position, journal_of, position_after, start_of, well}
 use Rattle.ol_model.specs.Image.{page_bytes, slots_bytes}
 use Rattle.ol_model.specs.Journal.{Page, page_at, page_from, rid_of}
-use Rattle.ol_model.specs.Machine.{Machine, first_free, formatted}
-use Rattle.ol_model.specs.Saveset.{Saved, SavedPage, places, saveset}
+use Rattle.ol_model.specs.Machine.{first_free, formatted}
+use Rattle.ol_model.specs.Saveset.{Saved, places, saveset}
 use Rattle.ol_model.specs.Tape.{tape}
 use Rattle.ol_model.specs.Text.{text}
 

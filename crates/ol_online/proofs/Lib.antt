@@ -1,0 +1,9 @@
+pub mod ArchiveLaws
+pub mod BlockLaws
+pub mod CommandLaws
+pub mod LineLaws
+pub mod Moves
+pub mod OutputLaws
+pub mod PlayLaws
+pub mod ReadingLaws
+pub mod WholePlay
