@@ -204,7 +204,18 @@ fn carry_out<D, T: Drive, F, S: Source>(
     }
 }
 
-/// Carries out the command that the words give, writes its output, and hands the rig and the history back.
+/// Carries out the command that the words give, `play` over the bytes of a script, and hands the rig and the
+/// history back. The output is the text of the history, and then that of the status.
+///
+/// Of the five drives, none of which has a mounted volume with room, it uses drive 1 alone. That one gets the
+/// blocks of the archive, of 2,144 bytes each: the header, the pages that the journal changed, the trailer.
+/// - `BadWords` comes where the words are not `play` alone. The script is not read then.
+/// - `ReadFault` comes where a read of the script failed.
+/// - `BadScript` gives the first line, from 1, that is off the form.
+/// - `TapeFault` comes where a call of the drive failed, `OutOfTape` where its volumes take no more. The archive
+///   is given up, and a first part of its blocks stays on the drive.
+/// - `NoMemory` comes where memory was refused. The history is that of a first part of the work.
+/// - `WriteFault` comes where the output was not written whole, and all else was well.
 pub fn command<D, T: Drive, F, S: Source, K: Sink>(
     alloc: Global,
     words: &Words,

@@ -1,0 +1,10 @@
+pub mod Decoded
+pub mod Fields
+pub mod Heads
+pub mod Logged
+pub mod Pages
+pub mod Spellings
+pub mod Several
+pub mod Whole
+pub mod Counts
+pub mod Filled

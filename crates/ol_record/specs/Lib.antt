@@ -1,0 +1,5 @@
+pub mod Spelling
+pub mod Reading
+pub mod LogPages
+pub mod PageReading
+pub mod Overwriting
