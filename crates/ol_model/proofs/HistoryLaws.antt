@@ -65,7 +65,7 @@ carries_done may_stop actor lines stage h = subst (λ (l : List Line). Carries m
 
 -- what holds after the first entry holds before it
 carries_before : (may_stop : Bool) (actor : Actor) (line : Line) (lines : List Line) (stage : Stage) (next : Option Stage) (e : Entry) (h : List Entry) (o : Outside)
-    → (e.actor ≡ line.actor) → (e.line ≡ line.number) → (e.event ≡ event_at line.form stage) → stage_after line.form stage e.reply o ≡ next
+    → (e.actor ≡ line.actor) → (e.line ≡ line.number) → (Some e.event ≡ event_at line.form stage) → stage_after line.form stage e.reply o ≡ next
     → Carries may_stop (lines_of actor (lines_after next (line ∷ lines))) (stage_for actor (lines_after next (line ∷ lines)) (first_or next)) (entries_of actor h)
     → (b : Bool) → same_actor line.actor actor ≡ b
     → Carries may_stop (lines_of actor (line ∷ lines)) (stage_for actor (line ∷ lines) stage) (entries_of actor (e ∷ h))

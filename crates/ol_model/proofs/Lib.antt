@@ -3,3 +3,4 @@ pub mod JournalLaws
 pub mod TapeLaws
 pub mod TextLaws
 pub mod WorkedExample
+pub mod Zeros

@@ -1,5 +1,6 @@
 -- The configuration of an installation: its spaces with their chunks, and what stands in them beside data.
-use Rattle.std.specs.Prelude.{List, Option, [], bytes_eq, codes, decimal, flat_map, if◌then◌else◌, position, slice_index_or, sum, ℕ, ◌*◌, ◌++◌, ◌+◌, ◌-◌, ◌==◌, ◌∷◌}
+use Rattle.std.specs.List.{list_all}
+use Rattle.std.specs.Prelude.{Bool, List, Option, [], bytes_eq, codes, decimal, flat_map, false, if◌then◌else◌, length, nat_le, position, slice_index_or, sum, ℕ, ◌&&◌, ◌*◌, ◌++◌, ◌+◌, ◌-◌, ◌==◌, ◌||◌, ◌∷◌}
 
 -- a space: its name, and the pages of each of its chunks
 pub record SpaceConfig : Type 0 where
@@ -34,6 +35,21 @@ area_pages c space =
 -- the number of data pages of a space
 abbrev pub data_pages : Config → ℕ → ℕ
 data_pages c space = sum (space_at c space).chunks - area_pages c space
+
+abbrev pub is_small_letter : ℕ → Bool
+is_small_letter b = nat_le 97 b && nat_le b 122
+
+abbrev pub is_digit : ℕ → Bool
+is_digit b = nat_le 48 b && nat_le b 57
+
+-- a small letter first
+abbrev pub begins_small : List ℕ → Bool
+begins_small [] = false
+begins_small (b ∷ bytes) = is_small_letter b
+
+-- the name of a space: a small letter, and up to seven small letters or digits behind it
+abbrev pub is_name : List ℕ → Bool
+is_name bytes = begins_small bytes && (nat_le (length bytes) 8 && list_all (λ b. is_small_letter b || is_digit b) bytes)
 
 -- the space of a name
 abbrev pub space_named : Config → List ℕ → Option ℕ

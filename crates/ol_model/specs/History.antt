@@ -53,7 +53,7 @@ Carries may_stop [] stage [] = Unit {0}
 Carries may_stop [] stage (e ∷ h) = ⊥
 Carries may_stop (line ∷ lines) stage [] = may_stop ≡ true
 Carries may_stop (line ∷ lines) stage (e ∷ h) =
-    (e.actor ≡ line.actor) × (e.line ≡ line.number) × (e.event ≡ event_at line.form stage)
+    (e.actor ≡ line.actor) × (e.line ≡ line.number) × (Some e.event ≡ event_at line.form stage)
     × ((o : Outside)
     × (let next = stage_after line.form stage e.reply o in
     Carries may_stop (lines_after next (line ∷ lines)) (first_or next) h))
@@ -100,7 +100,7 @@ pub record IsTurnOf (p : Position) (line : Line) (e : Entry) : Type 0 where
   pub number : e.number ≡ p.number
   pub actor : e.actor ≡ line.actor
   pub line_is : e.line ≡ line.number
-  pub event : e.event ≡ event_at line.form p.stage
+  pub event : Some e.event ≡ event_at line.form p.stage
   pub reply : e.reply ≡ (turn (given_by e.reply) p.machine e.actor e.event).0
 
 abbrev pub IsNext : Position → List Line → Entry → Type 0

@@ -32,12 +32,13 @@ archive_event level names Taking = ArchiveTurn
 archive_event level names Ending = ArchiveEnd
 archive_event level names (GivingUp why) = ArchiveCancel why
 
--- the event of a line at a stage
-abbrev pub event_at : Form → Stage → Event
-event_at BeginLine stage = BeginTurn
-event_at (InsertLine reg space row) stage = InsertTurn reg space row
-event_at CommitLine stage = CommitTurn
-event_at (ArchiveLine level spaces) stage = archive_event level spaces stage
+-- the event of a line at a stage, none for a line of a form that no actor carries out yet
+abbrev pub event_at : Form → Stage → Option Event
+event_at BeginLine stage = Some BeginTurn
+event_at (InsertLine reg space row) stage = Some (InsertTurn reg space row)
+event_at CommitLine stage = Some CommitTurn
+event_at (ArchiveLine level spaces) stage = Some (archive_event level spaces stage)
+event_at _ stage = None
 
 -- a line that goes on, unless its tape failed or ended
 abbrev pub goes_on : Option Why → Stage → Option Stage
@@ -52,7 +53,5 @@ archive_after Taking AllTaken tape = goes_on tape Ending
 archive_after _ _ tape = None
 
 abbrev pub stage_after : Form → Stage → Reply → Outside → Option Stage
-stage_after BeginLine stage reply o = None
-stage_after (InsertLine reg space row) stage reply o = None
-stage_after CommitLine stage reply o = None
 stage_after (ArchiveLine level spaces) stage reply o = archive_after stage reply o.after
+stage_after _ stage reply o = None

@@ -8,7 +8,7 @@ mod line;
 mod record;
 mod row;
 
-pub use event::{Event, Reply, Why};
+pub use event::{Event, Reply, Target, Why};
 pub use history::{Actor, By, Entry, History, Opened, Told};
 pub use label::{LABEL_LIMIT, Label, Labels, NAMES_LIMIT};
 pub use line::{Form, Line, Lines};
