@@ -1,2 +1,1 @@
 pub mod Padding
-mod Tail

@@ -6,7 +6,8 @@ ghost use Rattle.ol_object.specs.Bytes.{archive_head_bytes, padded_to, saved_byt
 ghost use Rattle.ol_object.specs.Spaces.{archive_head_of, saved_of};
 
 use crate::NoMemory;
-use crate::block::{PAYLOAD_LENGTH, put};
+use crate::block::PAYLOAD_LENGTH;
+use ol_bytes::{clear_from, put};
 use std::alloc::Global;
 use std::marker::Model;
 
@@ -88,14 +89,6 @@ fn put_parts(out: &mut [u8], spaces: &[(u8, u64, u64)], text: &[u8]) -> usize
     let at = put_spaces(out, at, spaces);
     let at = put(out, at, &(text.len() as u16).to_be_bytes());
     put(out, at, text)
-}
-
-/// Writes zeros from an index to the end.
-fn clear_from(out: &mut [u8], at: usize)
-    requires { at ≤ length out.old }
-    ensures { out.new ≡ take at out.old ++ replicate (length out.old - at) 0 }
-{
-    out[at..].fill(0);
 }
 
 /// Writes the spaces one after the other, 17 bytes each, and gives the index behind them.

@@ -4,6 +4,7 @@ ghost use Rattle.std.specs.Prelude.{◌≡◌, ◌+◌, ◌≤◌, ◌++◌, len
 ghost use Rattle.sha2.specs.Sha256.{sha256};
 ghost use Rattle.ol_object.specs.Bytes.{block_bytes, head_bytes};
 
+use ol_bytes::put;
 use sha2::{Digest, Sha256};
 
 /// The bytes of a block's head.
@@ -39,18 +40,6 @@ pub struct Block {
     pub b: u64,
     /// The level, in the header and the trailer of an archive; the page's stamp, in the block of a page.
     pub c: u64,
-}
-
-/// Writes bytes from an index on, and gives the index behind them. Only what stands before that index is
-/// promised, so that the writes of a chain add up from the front.
-pub(crate) fn put(out: &mut [u8], at: usize, bytes: &[u8]) -> usize
-    requires { at + length bytes.now ≤ length out.old }
-    ensures next { result ≡ at + length bytes.now }
-    ensures front { take result out.new ≡ take at out.old ++ bytes.now }
-{
-    let end = at + bytes.len();
-    out[at..end].copy_from_slice(bytes);
-    end
 }
 
 /// Writes the head at the front, and gives the index behind it.

@@ -5,4 +5,4 @@ use Rattle.ol_page.proofs.stamp.Goals as goal
 
 pub returns : goal.returns
 returns c p is was =
-    c.from_be_bytes.ensures ∙ ap (from_be_bytes w64) (c.copy_from_slice.ensures.after ∙ ap (take 8) was) ∙ from_be_bytes-to_be_bytes_8 p.stamp is.stamp
+    c.number.ensures ∙ ap (from_be_bytes w64) (ap (take 8) was) ∙ from_be_bytes-to_be_bytes_8 p.stamp is.stamp

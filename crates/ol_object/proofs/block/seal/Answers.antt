@@ -1,5 +1,5 @@
 use Rattle.std.proofs.Common.{arith, ◌∙◌}
-use Rattle.ol_object.proofs.Tail.{written_to_end}
+use Rattle.ol_bytes.proofs.Tail.{written_to_end}
 use Rattle.ol_object.proofs.block.seal.Goals as goal
 
 pub returns : goal.returns

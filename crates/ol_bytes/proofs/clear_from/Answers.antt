@@ -1,6 +1,6 @@
 use Rattle.std.proofs.Common.{◌≡◌, ◌++◌, ◌-◌, ◌∙◌, List, arith, ap, length, length-drop, length-take, replicate, take, ℕ}
-use Rattle.ol_object.proofs.Tail.{written_to_end}
-use Rattle.ol_object.proofs.archive_head.clear_from.Goals as goal
+use Rattle.ol_bytes.proofs.Tail.{written_to_end}
+use Rattle.ol_bytes.proofs.clear_from.Goals as goal
 
 pub returns : goal.returns
 returns c =
