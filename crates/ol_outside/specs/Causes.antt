@@ -1,5 +1,5 @@
 -- Counts of faults, which never fall and stand still at the greatest u64.
-use Rattle.std.specs.Prelude.{ℕ, ◌≡◌, ◌+◌, ◌-◌, ◌^◌, ◌<◌, ◌≤◌, min, Result, OnErr, OnOk}
+use Rattle.std.specs.Prelude.{ℕ, ◌≡◌, ◌≢◌, ◌+◌, ◌-◌, ◌^◌, ◌<◌, ◌≤◌, min, Result, OnErr, OnOk}
 
 -- the least count after a fault
 abbrev pub risen : ℕ → ℕ
@@ -18,3 +18,10 @@ pub record HasCause {T E : Type 0} (before now : ℕ) (result : Result T E) : Ty
   pub later : before ≤ now
   pub failed : OnErr result (Rose before now)
   pub kept : OnOk result (now ≡ before)
+
+-- the same of the counts of a disk's chunks, in a call on one of them: those of the others stay
+pub record HasChunkCause {T E : Type 0} (chunk : ℕ) (before now : ℕ → ℕ) (result : Result T E) : Type 0 where
+  pub later : (c : ℕ) → before c ≤ now c
+  pub failed : OnErr result (Rose (before chunk) (now chunk))
+  pub kept : OnOk result (now ≡ before)
+  pub others : (c : ℕ) → c ≢ chunk → now c ≡ before c

@@ -1,11 +1,12 @@
 -- What contracts see of the devices in memory.
-use Rattle.std.specs.Prelude.{ℕ, ◌≡◌, min, List, length, true, false}
+use Rattle.std.specs.Prelude.{ℕ, ◌-◌, ◌^◌, ◌≤◌, ◌≡◌, ◌⊎◌, min, List, [], length, true, false, replicate, slice_index}
 use Rattle.ol_outside.specs.declared.drive.Mounted.{Mounted}
 use Rattle.ol_outside.specs.declared.drive.Mounted.TheVariants.{Volume, NoMore, Failed as MountFailed}
 use Rattle.ol_outside.specs.declared.drive.Wrote.{Wrote}
 use Rattle.ol_outside.specs.declared.drive.Wrote.TheVariants.{Done, EndOfVolume, Failed as WriteFailed}
+use Rattle.ol_outside.specs.Disk.{Past, Passed, moments, with_call}
 use Rattle.ol_outside.specs.Drive.{Tape}
-use Rattle.ol_outside.specs.Faults.{FaultState, CountsCall}
+use Rattle.ol_outside.specs.Faults.{FaultState, CountsCall, no_calls}
 
 pub record SourceState : Type 0 where
   -- the bytes that are left
@@ -38,3 +39,37 @@ abbrev pub CountsWrite : FaultState → Wrote → FaultState → Type 0
 CountsWrite old Done new = CountsCall old false new
 CountsWrite old EndOfVolume new = new ≡ old
 CountsWrite old WriteFailed new = CountsCall old true new
+
+pub record DiskState : Type 0 where
+  -- what it began with, and its calls
+  pub past : Past
+  -- the pages of each chunk
+  pub sizes : List ℕ
+  -- how often each chunk has failed
+  pub counts : List ℕ
+  pub faults : FaultState
+
+-- the pages of a chunk, which are a u32
+abbrev pub pages_of : DiskState → ℕ → ℕ
+pages_of s c = min (slice_index s.sizes c) (2 ^ 32 - 1)
+
+-- how often a chunk has failed
+abbrev pub chunk_faults : DiskState → ℕ → ℕ
+chunk_faults s c = slice_index s.counts c
+
+-- the number of the last call, which stands still at the greatest u64
+abbrev pub last_moment : DiskState → ℕ
+last_moment s = min (moments s.past) (2 ^ 64 - 1)
+
+-- a disk that begins with these bytes, without a fault
+abbrev pub fresh_disk : List (List ℕ) → List ℕ → List ℕ → DiskState
+fresh_disk base sizes failing = record {
+  past = record { base = base; calls = [] };
+  sizes = sizes;
+  counts = replicate (length sizes) 0;
+  faults = no_calls failing;
+}
+
+-- a call that left nothing; it has no number where more than a u64 counts have left nothing
+abbrev pub LeavesNothing : Past → Past → Type 0
+LeavesNothing old new = (new ≡ with_call old Passed) ⊎ ((2 ^ 64 - 1 ≤ moments old) × (new ≡ old))

@@ -1,5 +1,5 @@
 -- What the calls of a tape drive do to its volumes.
-use Rattle.std.specs.Prelude.{ℕ, ◌+◌, ◌-◌, ◌<◌, ◌≡◌, ◌⊎◌, List, [], ◌∷◌, ◌++◌, length, Option, Some, Result, Ok, Err, unwrap_or, replicate, sum}
+use Rattle.std.specs.Prelude.{ℕ, ◌+◌, ◌-◌, ◌^◌, ◌<◌, ◌≡◌, ◌⊎◌, List, [], ◌∷◌, ◌++◌, length, Option, Some, Result, Ok, Err, unwrap_or, replicate, sum}
 use Rattle.std.specs.Option.{option_map}
 use Rattle.std.specs.List.{flat_map}
 use Rattle.ol_outside.specs.declared.stream.Failed.{Failed}
@@ -91,3 +91,14 @@ Syncs old (Err e) new = new ≡ spoilt old
 -- a drive of so many volumes of so many blocks each, of which none was mounted
 abbrev pub fresh : ℕ → ℕ → Tape
 fresh blocks volumes = record { mounted = 0; room = 0; rooms = replicate volumes blocks; volumes = Some []; synced = 0 }
+
+-- each volume has no more blocks than a u32 counts
+abbrev pub BlocksFit : List (List (List ℕ)) → Type 0
+BlocksFit [] = Unit {0}
+BlocksFit (v ∷ volumes) = (length v < 2 ^ 32) × BlocksFit volumes
+
+-- the blocks of the last volume
+abbrev pub last_length : List (List (List ℕ)) → ℕ
+last_length [] = 0
+last_length (v ∷ []) = length v
+last_length (v ∷ w ∷ volumes) = last_length (w ∷ volumes)

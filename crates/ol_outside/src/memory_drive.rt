@@ -1,10 +1,12 @@
 //! A tape drive in memory, which fails where it is told to, and the volumes that it leaves.
 
-ghost use Rattle.std.specs.Prelude.{◌≡◌, ◌<◌, ◌≤◌, ◌+◌, ◌↔◌, [], ◌∷◌, ◌++◌, length, Some, IsTrue, IfOk, OnOk, OnErr, is_err, slice_get};
+ghost use Rattle.std.specs.Prelude.{◌≡◌, ◌<◌, ◌≤◌, ◌+◌, ◌^◌, ◌↔◌, [], ◌∷◌, ◌++◌, length, Some, IsTrue, IfOk, OnOk, OnErr, is_err, slice_get};
 ghost use Rattle.ol_outside.specs.Causes.{HasCause, Rose};
 ghost use Rattle.ol_outside.specs.declared.drive.Mounted.TheVariants.{Failed as MountFailed};
 ghost use Rattle.ol_outside.specs.declared.drive.Wrote.TheVariants.{Failed as WriteFailed};
-ghost use Rattle.ol_outside.specs.Drive.{Mounts, Writes, Syncs, fresh, spoilt, stream, append_last};
+ghost use Rattle.ol_outside.specs.Drive.{Mounts, Writes, Syncs, fresh, spoilt, stream, append_last, BlocksFit, last_length};
+ghost use Rattle.std.proofs.Common.{get_or};
+ghost use Rattle.ol_outside.specs.Shelf.{flipped_in};
 ghost use Rattle.ol_outside.specs.Faults.{no_calls, next_fails, after_call, faults_in_all};
 ghost use Rattle.ol_outside.specs.Devices.{CountsMount, CountsWrite};
 
@@ -22,14 +24,18 @@ pub struct Volumes {
 
 impl Model for Volumes {
     ghost use Rattle.std.specs.Prelude.{ℕ, List, map};
+    ghost use Rattle.ol_outside.specs.Drive.{BlocksFit};
 
     ghost Value = { List (List (List ℕ)) };
 
     ghost view = { λ v. map (λ volume. volume.items) v.volumes.items };
+
+    // The number of blocks of each volume is a `u32`.
+    ghost invariant = { λ v. BlocksFit (map (λ volume. volume.items) v.volumes.items) };
 }
 
 impl Volumes {
-    fn new(alloc: Global) -> Volumes
+    pub(crate) fn new(alloc: Global) -> Volumes
         ensures { result ≡ [] }
     {
         Volumes {
@@ -59,10 +65,47 @@ impl Volumes {
         &self.volumes[volume]
     }
 
+    /// The number of blocks of a volume. Volumes are counted from 0 here.
+    pub(crate) fn block_count(&self, volume: usize) -> u32
+        requires { volume < length self.now }
+        ensures { result ≡ length (get_or self.now volume []) }
+    {
+        self.volumes[volume].len() as u32
+    }
+
+    /// A block of a volume. Volumes and blocks are counted from 0 here.
+    pub(crate) fn block(&self, volume: usize, block: usize) -> &[u8; BLOCK_LENGTH]
+        requires { block < length (get_or self.now volume []) }
+        ensures { result.now ≡ get_or (get_or self.now volume []) block [] }
+    {
+        &self.volumes[volume][block]
+    }
+
+    /// Turns all bits of a byte of a block. Volumes and blocks are counted from 0 here.
+    pub(crate) fn flip(&mut self, volume: usize, block: usize, byte: usize)
+        requires block { block < length (get_or self.old volume []) }
+        requires byte { byte < BLOCK_LENGTH }
+        ensures { self.new ≡ flipped_in self.old volume block byte }
+    {
+        let blocks = &mut self.volumes[volume];
+        let bytes = &mut blocks[block];
+        bytes[byte] = u8::MAX - bytes[byte];
+    }
+
+    /// Adds these volumes at the end.
+    pub(crate) fn join(&mut self, more: Volumes) -> Result<(), NoMemory>
+        ensures ok { OnOk result (self.new ≡ self.old ++ more) }
+        ensures err { OnErr result (self.new ≡ self.old) }
+    {
+        let mut more = more;
+        self.volumes.append(&mut more.volumes)
+    }
+
     /// Adds an empty volume at the end.
     fn add(&mut self, alloc: Global) -> Result<(), NoMemory>
         ensures ok { OnOk result (self.new ≡ self.old ++ [] ∷ []) }
         ensures err { OnErr result (self.new ≡ self.old) }
+        ensures last { OnOk result (last_length self.new ≡ 0) }
     {
         self.volumes.push(Vec::new(alloc))?;
         Ok(())
@@ -70,12 +113,14 @@ impl Volumes {
 
     /// Appends a block to the last volume.
     fn append(&mut self, block: &[u8; BLOCK_LENGTH]) -> Result<(), NoMemory>
-        requires { 0 < length self.old }
+        requires volume { 0 < length self.old }
+        requires room { last_length self.old + 1 < 2 ^ 32 }
         ensures ok { OnOk result (self.new ≡ append_last self.old block.now) }
         ensures err { OnErr result (self.new ≡ self.old) }
 
         ensures volumes { length self.new ≡ length self.old }
         ensures blocks { OnOk result (length (stream self.new) ≡ length (stream self.old) + 1) }
+        ensures last { OnOk result (last_length self.new ≡ last_length self.old + 1) }
     {
         let last = self.volumes.len() - 1;
         let volume = &mut self.volumes[last];
@@ -104,7 +149,7 @@ pub struct MemoryDrive {
 impl Model for MemoryDrive {
     ghost use Rattle.std.specs.Prelude.{◌≡◌, ◌<◌, ◌+◌, ◌*◌, ◌^◌, Some, length, replicate};
     ghost use Rattle.ol_outside.specs.Devices.{DriveState};
-    ghost use Rattle.ol_outside.specs.Drive.{stream};
+    ghost use Rattle.ol_outside.specs.Drive.{stream, last_length};
 
     ghost Value = { DriveState };
 
@@ -122,6 +167,7 @@ impl Model for MemoryDrive {
     // The numbers of volumes and of blocks stay within their types.
     ghost invariant = { λ d. (d.written ≡ length (stream d.volumes))
         × (length d.volumes + d.left < 2 ^ 32)
+        × (last_length d.volumes + d.room < 2 ^ 32)
         × (d.written + (d.room + d.left * d.blocks) < 2 ^ 64) };
 }
 
