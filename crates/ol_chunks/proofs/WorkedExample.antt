@@ -1,0 +1,41 @@
+-- A worked example: the text of a configuration, what it gives, and where its pages lie.
+use Rattle.std.specs.Prelude.{Err, List, None, Ok, Option, Some, [], codes, refl, ℕ, ◌++◌, ◌≡◌, ◌∷◌}
+use Rattle.ol_model.specs.Config.{data_pages}
+use Rattle.ol_model.proofs.WorkedExample.{config}
+use Rattle.ol_chunks.specs.Places.{holder_of, image_area, log_area, physical_area, place_of}
+use Rattle.ol_chunks.specs.Reading.{config_of}
+use Rattle.ol_chunks.specs.declared.table.Area.{Area}
+
+abbrev line : List ℕ → List ℕ → List ℕ
+line text rest = text ++ (10 ∷ rest)
+
+abbrev text : List ℕ
+text = line (codes "space root 100") (line (codes "space data1 8") (line (codes "physlog root 8") (line (codes "logs root 3 20") (line (codes "before 2") []))))
+
+the_reading : config_of text ≡ Ok config
+the_reading = refl
+
+-- the fourth line is missing, the second space has no chunk, and a number has a leading zero
+no_fourth_line : config_of (line (codes "space root 100") (line (codes "space data1 8") (line (codes "physlog root 8") []))) ≡ Err 4
+no_fourth_line = refl
+
+no_chunk : config_of (line (codes "space root 100") (line (codes "space data1") [])) ≡ Err 2
+no_chunk = refl
+
+leading_zero : config_of (line (codes "space root 0100") []) ≡ Err 1
+leading_zero = refl
+
+the_areas : (let areas : Area × Area × Area = (physical_area config, log_area config, image_area config) in areas)
+    ≡ (record { chunk = 0; first = 12; count = 8; pages = 2 }, record { chunk = 0; first = 28; count = 3; pages = 20 }, record { chunk = 2; first = 0; count = 2; pages = 1 })
+the_areas = refl
+
+data_pages_of : (let counts : ℕ × ℕ = (data_pages config 0, data_pages config 1) in counts) ≡ (12, 8)
+data_pages_of = refl
+
+-- root's data pages are the last 12 of chunk 0
+the_places : (let places : Option (ℕ × ℕ) × Option (ℕ × ℕ) × Option (ℕ × ℕ) × Option (ℕ × ℕ) = (place_of config 0 0, place_of config 0 11, place_of config 0 12, place_of config 1 7) in places)
+    ≡ (Some (0, 88), Some (0, 99), None, Some (1, 7))
+the_places = refl
+
+the_holders : (let holders : Option ℕ × Option ℕ × Option ℕ = (holder_of config 0, holder_of config 1, holder_of config 2) in holders) ≡ (Some 0, Some 1, None)
+the_holders = refl

@@ -1,0 +1,5 @@
+pub mod Limits
+pub mod Reading
+pub mod Places
+pub mod Drafts
+pub mod Pieces
