@@ -1,0 +1,10 @@
+pub mod Steps
+pub mod PieceLaws
+pub mod NumberLaws
+pub mod NameLaws
+pub mod ScriptLaws
+pub mod WordLaws
+pub mod FormLaws
+pub mod LineLaws
+pub mod LimitLaws
+pub mod SlotLaws

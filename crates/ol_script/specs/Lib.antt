@@ -1,0 +1,8 @@
+pub mod Pieces
+pub mod Reading
+pub mod Words
+pub mod Forms
+pub mod Script
+pub mod Spelling
+pub mod Sources
+pub mod Slots
