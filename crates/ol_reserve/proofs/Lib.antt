@@ -1,0 +1,7 @@
+mod Answering
+mod Fields
+pub mod Gates
+mod Grammar
+mod Known
+mod Results
+mod Targets
