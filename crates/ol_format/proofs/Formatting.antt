@@ -1,0 +1,143 @@
+-- A disk that was cleared, and that holds the first anchor, is formatted.
+use Rattle.std.specs.Prelude.{None, Option, Some, Result, Err, IsErrOf, length, suc, zero, ℕ, ◌*◌, ◌+◌, ◌<◌, ◌≡◌, ◌≤◌, ◌⊎◌}
+use Rattle.std.proofs.Common.{ap, arith, inl, inr, refl, subst, sym, ◌∙◌}
+use Rattle.std.proofs.lemmas.Bool.{cases_lt}
+use Rattle.std.proofs.lemmas.List.{get_or_past}
+use Rattle.std.proofs.lemmas.List.Sums.{sum_by_more_le}
+use Rattle.ol_chunks.specs.Limits.{IsConfig, chunk_count}
+use Rattle.ol_chunks.specs.Places.{chunk_pages, first_number, log_area, physical_area, place_of}
+use Rattle.ol_chunks.proofs.Chunks.{IsPlace, first_pages, has_chunk, logs_inside, physical_inside, place_inside, place_is}
+use Rattle.ol_chunks.proofs.PlaceLaws.{logs_past_reserved, past_reserved, physical_past_reserved}
+use Rattle.ol_model.specs.Config.{Config, SpaceConfig, area_pages, space_at, unnamed}
+use Rattle.ol_outside.specs.Causes.{HasChunkCause, Rose}
+use Rattle.ol_outside.specs.Disk.{Bytes, Leaves, Past, Rest, seen}
+use Rattle.ol_outside.proofs.DiskLaws.{rest-seen}
+use Rattle.ol_reserve.specs.Anchor.{IsAnchor}
+use Rattle.ol_reserve.specs.Pair.{FramedByPair, IsAbove, IsOneOf, IsReady}
+use Rattle.ol_reserve.specs.declared.anchor.Anchor.{Anchor}
+use Rattle.ol_reserve.proofs.Gates.{newest_seen}
+use Rattle.ol_format.specs.Causes.{HasFormatCause}
+use Rattle.ol_format.specs.First.{AreLarge, IsFirstOf, chunks_of, first_anchor}
+use Rattle.ol_format.specs.Formatted.{AreZeroed, IsFormatted, IsZero, Stops, first_page}
+use Rattle.ol_format.specs.declared.FormatFault.{FormatFault}
+use Rattle.ol_format.specs.declared.FormatFault.TheVariants.{DiskFault}
+use Rattle.ol_format.proofs.FirstAnchor.{is_first}
+
+-- ---- the chunks of spaces
+
+some_space : (c : Config) → IsConfig c → 0 < length c.spaces
+some_space c is = omega (arith, is.log_space)
+
+-- a chunk of a space is one of those of all spaces
+chunk_among : (c : Config) (space at : ℕ) → space < length c.spaces → at < length (space_at c space).chunks → first_number c space + at < chunk_count c.spaces
+chunk_among c space at there among = omega (arith, among, sum_by_more_le (λ (s : SpaceConfig). length s.chunks) c.spaces space unnamed there)
+
+first_among : (c : Config) → IsConfig c → (space : ℕ) → space < length c.spaces → first_number c space < chunk_count c.spaces
+first_among c is space there = omega (arith, chunk_among c space 0 there (has_chunk c is space there))
+
+pub some_chunk : (c : Config) → IsConfig c → 0 < chunk_count c.spaces
+some_chunk c is = omega (arith, first_among c is 0 (some_space c is))
+
+-- the first chunk has pages behind those that are reserved
+pub root_pages : (c : Config) → IsConfig c → 12 < chunk_pages c 0
+root_pages c is = omega (arith, is.room 0 (some_space c is), first_pages c is 0 (some_space c is))
+
+pub root_size : (sizes : ℕ → ℕ) (c : Config) → IsConfig c → AreLarge sizes c (chunks_of c) → 2 ≤ sizes 0
+root_size sizes c is large = omega (arith, root_pages c is, large 0 (omega (arith, some_chunk c is)))
+
+-- ---- what is zero once the first anchor is written
+
+behind_pair : (chunk page : ℕ) → (chunk ≡ 0 → 12 ≤ page) → first_page chunk ≤ page
+behind_pair zero page past = omega (arith, past refl)
+behind_pair (suc chunk) page past = omega arith
+
+zero_there : (old new : Past) (c : Config) → AreZeroed old c (chunk_count c.spaces) → (d : Bytes) → FramedByPair old d
+    → (chunk page : ℕ) → chunk < chunk_count c.spaces → (chunk ≡ 0 → 12 ≤ page) → page < chunk_pages c chunk → IsZero d chunk page
+zero_there old new c zeroed d f chunk page among past lt i inside =
+    f.same chunk page i (λ at pair. omega (arith, past at, pair)) ∙ zeroed.chunks chunk among f.from f.rest page (behind_pair chunk page past) lt i inside
+
+-- where a data page lies
+placed : (c : Config) → IsConfig c → (space page : ℕ) (p : ℕ × ℕ) → place_of c space page ≡ Some p → (p.0 < chunk_count c.spaces) × (p.1 < chunk_pages c p.0)
+placed c is space page p e = go (cases_lt space (length c.spaces))
+  where
+    at : IsPlace (first_number c space) (space_at c space).chunks (area_pages c space + page) p
+    at = place_is (first_number c space) (space_at c space).chunks (area_pages c space + page) p e
+
+    go : (space < length c.spaces) ⊎ (length c.spaces ≤ space) → (p.0 < chunk_count c.spaces) × (p.1 < chunk_pages c p.0)
+    go (inl there) = (
+      omega (arith, at.number, chunk_among c space at.at there at.there),
+      place_inside c space (first_number c space) (area_pages c space + page) (space_at c space).chunks p there refl refl e,
+    )
+    go (inr ge) = absurd (omega (arith, at.there, ap (λ (s : SpaceConfig). length s.chunks) (get_or_past c.spaces space unnamed ge)))
+
+pub formatted_from : (old new : Past) (c : Config) → IsConfig c → AreZeroed old c (chunk_count c.spaces) → IsReady new (Some (first_anchor c)) → ((d : Bytes) → Rest new d → FramedByPair old d)
+    → (d : Bytes) → Rest new d → IsFormatted d c
+formatted_from old new c is zeroed ready frame d rest = record {
+  anchor = newest_seen new (Some (first_anchor c)) d ready rest;
+  reserved = λ page le lt. zero_reserved page le lt;
+  logs = λ k lt opened.
+      let area = log_area c in
+      let e : d area.chunk (area.first + k) 0 ≡ 0 =
+      zero_at area.chunk (area.first + k) (first_among c is c.log_space is.log_space)
+      (λ at. logs_past_reserved c is (area.first + k) (sym at, omega arith, omega (arith, lt)))
+      (omega (arith, lt, logs_inside c is)) 0 (omega arith) in
+      omega (arith, e, opened);
+  physical = λ k lt opened.
+      let area = physical_area c in
+      let e : d area.chunk (area.first + 2 * k) 0 ≡ 0 =
+      zero_at area.chunk (area.first + 2 * k) (first_among c is c.physical_space is.physical_space)
+      (λ at. physical_past_reserved c is (area.first + 2 * k) (sym at, omega arith, omega (arith, lt)))
+      (omega (arith, lt, physical_inside c is)) 0 (omega arith) in
+      omega (arith, e, opened);
+  rows = λ space page place e.
+      let p = placed c is space page place e in
+      zero_at place.0 place.1 p.0 (λ at. past_reserved c is space page place e at) p.1;
+}
+  where
+    f : FramedByPair old d
+    f = frame d rest
+
+    -- pages 2 to 11 are zero as well
+    zero_reserved : (page : ℕ) → 2 ≤ page → page < 12 → IsZero d 0 page
+    zero_reserved page le lt i inside =
+        f.same 0 page i (λ at pair. omega (arith, le, pair)) ∙ zeroed.chunks 0 (some_chunk c is) f.from f.rest page le (omega (arith, lt, root_pages c is)) i inside
+
+    zero_at : (chunk page : ℕ) → chunk < chunk_count c.spaces → (chunk ≡ 0 → 12 ≤ page) → page < chunk_pages c chunk → IsZero d chunk page
+    zero_at chunk page among past lt = zero_there old new c zeroed d f chunk page among past lt
+
+-- a cleared disk has an empty pair
+pub blank_ready : (past : Past) (c : Config) → IsConfig c → AreZeroed past c (chunk_count c.spaces) → IsReady past None
+blank_ready past c is zeroed = record {
+  settled = λ d rest page i lt. zeroed.settled (some_chunk c is) d rest page i;
+  newest = (zeroed.blank (seen past) (rest-seen past) 0 (omega arith), zeroed.blank (seen past) (rest-seen past) 1 (omega arith));
+}
+
+pub ready_from : (old new : Past) (c : Config) (a : Anchor) → IsFirstOf c a → AreZeroed old c (chunk_count c.spaces)
+    → ((now : Option Anchor) → IsReady old now → IsAnchor a → IsAbove now a.serial → IsReady new (Some a)) → IsReady new (Some (first_anchor c))
+ready_from old new c a first zeroed wrote =
+    let is : IsAnchor a = subst (λ (b : Anchor). IsAnchor b) (sym first.1) (is_first c first.0) in
+    subst (λ (b : Anchor). IsReady new (Some b)) first.1 (wrote None (blank_ready old c first.0 zeroed) is tt)
+
+pub stops_first : (old new : Past) (c : Config) (a : Anchor) → IsFirstOf c a → AreZeroed old c (chunk_count c.spaces)
+    → ((now : Option Anchor) → IsReady old now → IsAnchor a → IsAbove now a.serial → Leaves old new (IsOneOf now (Some a)))
+    → ((now : Option Anchor) → IsReady old now → IsAnchor a → IsAbove now a.serial → (d : Bytes) → Rest new d → IsOneOf now (Some a) d)
+    → Stops old new (IsOneOf None (Some (first_anchor c)))
+stops_first old new c a first zeroed within behind =
+    let is : IsAnchor a = subst (λ (b : Anchor). IsAnchor b) (sym first.1) (is_first c first.0) in
+    let ready = blank_ready old c first.0 zeroed in
+    subst (λ (b : Anchor). Stops old new (IsOneOf None (Some b))) first.1 (record { within = within None ready is tt; behind = behind None ready is tt })
+
+-- ---- causes
+
+abbrev failed : ℕ → Result (Unit {0}) FormatFault
+failed chunk = Err (DiskFault chunk)
+
+pub failed_from : {E : Type 0} (before now : ℕ → ℕ) (chunk : ℕ) (e : E) → HasChunkCause {T = Unit {0}} {E = E} chunk before now (Err e) → HasFormatCause before now (Err (DiskFault chunk))
+failed_from before now chunk e cause = record {
+  later = cause.later;
+  fault = λ k is. subst (λ (n : ℕ). Rose (before n) (now n)) (fault_is k is) cause.failed;
+  kept = λ other. absurd (other chunk refl);
+}
+  where
+    fault_is : (k : ℕ) → IsErrOf (failed chunk) (DiskFault k) → chunk ≡ k
+    fault_is k is = cc

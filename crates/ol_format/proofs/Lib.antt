@@ -1,0 +1,4 @@
+pub mod Stops
+pub mod Clearing
+pub mod FirstAnchor
+pub mod Formatting

@@ -1,0 +1,104 @@
+//! The formatting of a disk: what stood on it is cleared, and the first anchor of an installation is written.
+#![tactic(auto)]
+
+mod first;
+mod zeros;
+
+ghost use Rattle.std.specs.Prelude.{◌≡◌, ◌≤◌, ℕ, None, Some, IsErrOf, OnOk};
+ghost use Rattle.ol_outside.specs.Disk.{Bytes, Rest};
+ghost use Rattle.ol_reserve.specs.Pair.{IsOneOf, IsReady};
+ghost use Rattle.ol_chunks.specs.Limits.{chunk_count};
+ghost use Rattle.ol_model.specs.Config.{Config};
+ghost use Rattle.ol_format.specs.Causes.{HasFormatCause};
+ghost use Rattle.ol_format.specs.First.{AreLarge, IsFirstOf, IsFirstSmall, chunks_of, first_anchor};
+ghost use Rattle.ol_format.specs.Formatted.{AreZeroed, IsBetween, IsClosing, IsFormatted, Stops};
+
+use crate::first::make_first;
+use crate::zeros::{close_pair, zero_chunks};
+pub use first::first_small;
+use ol_chunks::ChunkTable;
+use ol_outside::Disk;
+use ol_reserve::{Anchor, Pair};
+
+/// Why a disk was not formatted.
+#[derive(Clone, Copy, Debug, PartialEq, Eq)]
+pub enum FormatFault {
+    /// This chunk, the first such, has fewer pages than the configuration says. The disk is as it was.
+    TooSmall { chunk: u8 },
+    /// A call of the disk on this chunk failed. The disk may be formatted again.
+    DiskFault { chunk: u8 },
+}
+
+/// Formats a disk for an installation of this configuration: the gates of the anchor pair are closed first, so that a
+/// stop from then on leaves no installation; then the other pages of all spaces' chunks are zeroed, and the first
+/// anchor is written. Whatever stood on the disk, and wherever an earlier call of this stopped, serves.
+///
+/// `TooSmall` comes exactly where a chunk, the temporary one among them, has fewer pages than the configuration says;
+/// `DiskFault` only where the count of faults of that chunk rose. It takes no memory.
+pub fn format<D: Disk>(disk: &mut D, table: &ChunkTable) -> Result<(), FormatFault>
+    // What is read, and what each stop afterwards leaves, is a formatted disk.
+    ensures ok { D.tells → OnOk result ((d : Bytes) → Rest (D.past disk.new) d → IsFormatted d table.now) }
+    ensures ready { D.tells → OnOk result (IsReady (D.past disk.new) (Some (first_anchor table.now))) }
+    // A stop within the call, or behind one that failed, leaves no anchor over pages that are zeroed.
+    ensures stops { D.tells → Stops (D.past disk.old) (D.past disk.new) (IsBetween (D.past disk.old) table.now) }
+
+    ensures small { (chunk : ℕ) → IsErrOf result (FormatFault.TooSmall chunk) → IsFirstSmall (D.sizes disk.old) table.now chunk }
+    ensures large { ((chunk : ℕ) → IsErrOf result (FormatFault.TooSmall chunk) → ⊥) → AreLarge (D.sizes disk.old) table.now (chunks_of table.now) }
+    ensures untouched { (chunk : ℕ) → IsErrOf result (FormatFault.TooSmall chunk) → disk.new ≡ disk.old }
+    ensures cause { HasFormatCause (D.fault_counts disk.old) (D.fault_counts disk.new) result }
+    ensures sizes { D.sizes disk.new ≡ D.sizes disk.old }
+{
+    match first_small(disk, table) {
+        Some(chunk) => Err(FormatFault::TooSmall { chunk }),
+        None => format_large(disk, table),
+    }
+}
+
+/// Formats a disk whose chunks are large enough.
+fn format_large<D: Disk>(disk: &mut D, table: &ChunkTable) -> Result<(), FormatFault>
+    requires { AreLarge (D.sizes disk.old) table.now (chunks_of table.now) }
+    ensures ok { D.tells → OnOk result ((d : Bytes) → Rest (D.past disk.new) d → IsFormatted d table.now) }
+    ensures ready { D.tells → OnOk result (IsReady (D.past disk.new) (Some (first_anchor table.now))) }
+    ensures stops { D.tells → Stops (D.past disk.old) (D.past disk.new) (IsBetween (D.past disk.old) table.now) }
+    ensures small { (chunk : ℕ) → IsErrOf result (FormatFault.TooSmall chunk) → ⊥ }
+    ensures cause { HasFormatCause (D.fault_counts disk.old) (D.fault_counts disk.new) result }
+    ensures sizes { D.sizes disk.new ≡ D.sizes disk.old }
+{
+    let anchor = make_first(table);
+    match clear(disk, table) {
+        Ok(()) => write_first(disk, &anchor),
+        Err(fault) => Err(fault),
+    }
+}
+
+/// Closes the pair, and zeroes all other pages of the spaces' chunks.
+fn clear<D: Disk>(disk: &mut D, table: &ChunkTable) -> Result<(), FormatFault>
+    requires large { AreLarge (D.sizes disk.old) table.now (chunks_of table.now) }
+    requires pair { 2 ≤ D.sizes disk.old 0 }
+    ensures ok { D.tells → OnOk result (AreZeroed (D.past disk.new) table.now (chunk_count table.now.spaces)) }
+    ensures stops { D.tells → Stops (D.past disk.old) (D.past disk.new) (IsClosing (D.past disk.old)) }
+    ensures small { (chunk : ℕ) → IsErrOf result (FormatFault.TooSmall chunk) → ⊥ }
+    ensures cause { HasFormatCause (D.fault_counts disk.old) (D.fault_counts disk.new) result }
+    ensures sizes { D.sizes disk.new ≡ D.sizes disk.old }
+{
+    match close_pair(disk) {
+        Ok(()) => zero_chunks(disk, table),
+        Err(_) => Err(FormatFault::DiskFault { chunk: 0 }),
+    }
+}
+
+/// Writes the first anchor of a configuration to a disk that is cleared for it.
+fn write_first<D: Disk>(disk: &mut D, anchor: &Anchor) -> Result<(), FormatFault>
+    requires { 2 ≤ D.sizes disk.old 0 }
+    ensures ok { D.tells → (c : Config) → IsFirstOf c anchor.now → AreZeroed (D.past disk.old) c (chunk_count c.spaces) → OnOk result ((d : Bytes) → Rest (D.past disk.new) d → IsFormatted d c) }
+    ensures ready { D.tells → (c : Config) → IsFirstOf c anchor.now → AreZeroed (D.past disk.old) c (chunk_count c.spaces) → OnOk result (IsReady (D.past disk.new) (Some (first_anchor c))) }
+    ensures stops { D.tells → (c : Config) → IsFirstOf c anchor.now → AreZeroed (D.past disk.old) c (chunk_count c.spaces) → Stops (D.past disk.old) (D.past disk.new) (IsOneOf None (Some (first_anchor c))) }
+    ensures small { (chunk : ℕ) → IsErrOf result (FormatFault.TooSmall chunk) → ⊥ }
+    ensures cause { HasFormatCause (D.fault_counts disk.old) (D.fault_counts disk.new) result }
+    ensures sizes { D.sizes disk.new ≡ D.sizes disk.old }
+{
+    match Pair::write(disk, anchor) {
+        Ok(()) => Ok(()),
+        Err(_) => Err(FormatFault::DiskFault { chunk: 0 }),
+    }
+}
