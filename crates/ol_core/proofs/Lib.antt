@@ -1,5 +1,9 @@
-pub mod Beginning
-pub mod Inserts
+pub mod Steps
+pub mod Free
+pub mod Held
+pub mod Changed
+pub mod Marks
+pub mod Walks
 pub mod Kept
 pub mod Places
 pub mod Starts

@@ -1,22 +1,23 @@
--- The start of an archive of both spaces.
+-- The start of an archive.
 use Rattle.std.specs.Prelude.{List, None, Option, Some, [], false, is_some, length, option_to_list, true, unwrap_or, ℕ, ◌+◌, ◌∷◌, ◌≡◌, refl}
 use Rattle.std.proofs.Common.{ap, arith, sym, ◌∙◌}
 use Rattle.std.proofs.lemmas.List.{take_all}
-use Rattle.std.proofs.lemmas.List.FromFn.{length-map-range_with_len}
 use Rattle.ol_model.specs.declared.event.Reply.{Reply}
 use Rattle.ol_model.specs.declared.event.Reply.TheVariants.{Started}
 use Rattle.ol_model.specs.declared.history.Entry.{Entry}
 use Rattle.ol_model.specs.declared.record.Record.{Record}
 use Rattle.ol_model.specs.declared.record.Rid.{Rid}
-use Rattle.ol_model.specs.Archivers.{start_turn}
+use Rattle.ol_model.specs.Archivers.{saved_of, spaces_named, start_turn, start_with}
+use Rattle.ol_model.specs.Config.{Config}
 use Rattle.ol_model.specs.Machine.{Archive, Machine, pages_of, with_archive}
-use Rattle.ol_model.specs.Saveset.{places}
+use Rattle.ol_model.specs.Saveset.{Saved, places}
 use Rattle.ol_model.specs.Transactions.{Txn, low_at, low_of, open_at}
 use Rattle.ol_core.specs.declared.running.Running.{Running}
-use Rattle.ol_core.specs.Core.{IsKept, archive_in, machine_in, pages_used}
-use Rattle.ol_core.specs.Initial.{both_names, both_spaces, initial_config}
+use Rattle.ol_core.specs.Core.{IsKept, archive_in, machine_in}
+use Rattle.ol_core.specs.Filled.{Filled, marked, no_marks, saved_in, used_from}
 use Rattle.ol_core.proofs.Kept.{numbers}
-use Rattle.ol_core.proofs.Places.{on_data, places_are}
+use Rattle.ol_core.proofs.Marks.{saved_are}
+use Rattle.ol_core.proofs.Places.{places_are}
 
 pub no_running : (a : Option Running) → is_some a ≡ false → a ≡ None
 no_running None h = refl
@@ -29,28 +30,38 @@ low_is [] (Some n) last h = absurd (let e : ◌≡◌ {A = List ℕ} [] (n ∷ [
 low_is (t ∷ txns) None last h = absurd (let e : t.number ∷ numbers txns ≡ [] = h in cc)
 low_is (t ∷ txns) (Some n) last h = cc
 
--- an archive that begins
-abbrev begun : List Record → ℕ → Archive
-begun j next = record { number = next; level = 0; cut = length j; low = low_at j; spaces = both_spaces; passed = 0 }
-
 abbrev start_of : Machine → ℕ → Archive → Reply × Machine
 start_of m pages a = (Started a.number a.cut pages, with_archive 1 (Some a) (record m { next_archive = a.number + 1 }))
 
-abbrev archive_of : ℕ → ℕ → ℕ → ℕ → Archive
-archive_of number cut low passed = record { number = number; level = 0; cut = cut; low = low; spaces = both_spaces; passed = passed }
+abbrev begun : ℕ → ℕ → ℕ → List Saved → Archive
+begun number cut low spaces = record { number = number; level = 0; cut = cut; low = low; spaces = spaces; passed = 0 }
 
-same_archive : (b : Running) (number cut low passed : ℕ) → b.number ≡ number → b.cut ≡ cut → b.low ≡ low → b.passed ≡ passed → archive_in b ≡ archive_of number cut low passed
-same_archive b number cut low passed p q r s =
-    ap (λ (x : ℕ). archive_of x b.cut b.low b.passed) p ∙ ap (λ (x : ℕ). archive_of number x b.low b.passed) q
-    ∙ ap (λ (x : ℕ). archive_of number cut x b.passed) r ∙ ap (λ (x : ℕ). archive_of number cut low x) s
+-- an archive that begins, as the engine keeps it
+pub record Begins (j : List Record) (txn : Option ℕ) (next : ℕ) (spaces : List ℕ) (b : Running) : Type 0 where
+  pub number : b.number ≡ next
+  pub cut : b.cut ≡ length j
+  pub low : b.low ≡ unwrap_or txn (length j + 1)
+  pub marks : b.spaces ≡ marked no_marks spaces
+  pub passed : b.passed ≡ 0
 
-pub starts : {j : List Record} {txn : Option ℕ} {pages : List (List ℕ)} {rows next : ℕ} {h : List Entry} (regs : List (Option Rid)) (b : Running) → IsKept j txn pages rows next None h
-    → b.number ≡ next → b.cut ≡ length j → b.low ≡ unwrap_or txn (length j + 1) → b.passed ≡ 0
-    → start_turn (machine_in j txn regs next None) 1 0 both_names ≡ (Started b.number b.cut (pages_used rows), machine_in j txn regs (next + 1) (Some b))
-starts {j = j} {txn = txn} {rows = rows} {next = next} regs b k number cut low passed =
-    let m = machine_in j txn regs next None in
-    let count : length (pages_of m (begun j next)) ≡ pages_used rows =
-    ap (λ (l : List Record). length (places initial_config l both_spaces)) (take_all (length j) j (omega arith)) ∙ ap length (places_are j rows k.room k.stamps k.others) ∙ length-map-range_with_len on_data 0 (pages_used rows) in
-    let is : archive_in b ≡ begun j next = same_archive b next (length j) (low_at j) 0 number cut (low ∙ sym (low_is (open_at j) txn (length j) k.open_txn)) passed in
-    ap (λ (n : ℕ). start_of m n (begun j next)) count ∙ ap (start_of m (pages_used rows)) (sym is)
-    ∙ ap (λ (n : ℕ). let r : Reply × Machine = (Started b.number b.cut (pages_used rows), machine_in j txn regs (n + 1) (Some b)) in r) number
+same_archive : {c : Config} {j : List Record} {txn : Option ℕ} {pages : List Filled} {next : ℕ} {h : List Entry} (names : List (List ℕ)) (spaces : List ℕ) (b : Running) → IsKept c j txn pages next None h → spaces_named c names ≡ Some spaces → Begins j txn next spaces b
+    → archive_in b ≡ begun next (length j) (low_at j) (saved_of c spaces)
+same_archive {c = c} {j = j} {txn = txn} {next = next} names spaces b k named is =
+    ap (λ (x : ℕ). let r : Archive = record { number = x; level = 0; cut = b.cut; low = b.low; spaces = saved_in b.spaces; passed = b.passed } in r) is.number
+    ∙ ap (λ (x : ℕ). let r : Archive = record { number = next; level = 0; cut = x; low = b.low; spaces = saved_in b.spaces; passed = b.passed } in r) is.cut
+    ∙ ap (λ (x : ℕ). let r : Archive = record { number = next; level = 0; cut = length j; low = x; spaces = saved_in b.spaces; passed = b.passed } in r) (is.low ∙ sym (low_is (open_at j) txn (length j) k.open_txn))
+    ∙ ap (λ (x : ℕ). let r : Archive = record { number = next; level = 0; cut = length j; low = low_at j; spaces = saved_in b.spaces; passed = x } in r) is.passed
+    ∙ ap (begun next (length j) (low_at j)) (ap saved_in is.marks ∙ saved_are c names spaces k.limits named)
+
+pub starts : {c : Config} {j : List Record} {txn : Option ℕ} {pages : List Filled} {next : ℕ} {h : List Entry} (regs : List (Option Rid)) (names : List (List ℕ)) (spaces : List ℕ) (b : Running) → IsKept c j txn pages next None h
+    → spaces_named c names ≡ Some spaces → Begins j txn next spaces b
+    → start_turn (machine_in c j txn regs next None) 1 0 names ≡ (Started b.number b.cut (length (used_from pages b.spaces 0)), machine_in c j txn regs (next + 1) (Some b))
+starts {c = c} {j = j} {txn = txn} {pages = pages} {next = next} regs names spaces b k named begins =
+    let m = machine_in c j txn regs next None in
+    let is = same_archive names spaces b k named begins in
+    let count : length (pages_of m (archive_in b)) ≡ length (used_from pages b.spaces 0) =
+    ap (λ (l : List Record). length (places c l (saved_in b.spaces))) (take_all b.cut j (omega (arith, begins.cut))) ∙ ap length (places_are c j pages b.spaces k.filled) in
+    ap (start_with m 1 0) named
+    ∙ ap (λ (a : Archive). start_of m (length (pages_of m a)) a) (sym is)
+    ∙ ap (λ (n : ℕ). start_of m n (archive_in b)) count
+    ∙ ap (λ (n : ℕ). let r : Reply × Machine = (Started b.number b.cut (length (used_from pages b.spaces 0)), machine_in c j txn regs (n + 1) (Some b)) in r) begins.number

@@ -1,2 +1,2 @@
-pub mod Initial
+pub mod Filled
 pub mod Core

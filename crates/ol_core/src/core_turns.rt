@@ -1,34 +1,28 @@
 //! The engine.
 
-ghost use Rattle.std.specs.Prelude.{◌≡◌, ◌++◌, ◌∷◌, [], ◌+◌, ◌/◌, ◌%◌, ◌^◌, ◌<◌, ◌≤◌, length, OnOk, OnErr, IfOk, codes, vec_len, vec_capacity};
-ghost use Rattle.std.specs.Prelude.{ℕ, ◌≢◌, replicate, slice_index_or, Some, None};
+ghost use Rattle.std.specs.Prelude.{◌≡◌, ◌++◌, ◌∷◌, [], ◌+◌, ◌/◌, ◌^◌, ◌<◌, ◌≤◌, ◌*◌, length, OnOk, OnErr, IfOk, vec_len, vec_capacity};
+ghost use Rattle.std.specs.Prelude.{Some, None};
 ghost use Rattle.ol_model.specs.declared.record.Record.TheVariants.{Change};
-ghost use Rattle.ol_model.specs.Image.{IsPage, page_bytes, with_slot};
-ghost use Rattle.ol_model.specs.Journal.{Page};
-ghost use Rattle.ol_core.specs.Core.{entry_of, pages_used, slot_at};
+ghost use Rattle.ol_core.specs.Core.{entry_of};
+ghost use Rattle.ol_core.specs.Filled.{slot_at};
 
+use crate::choice::{choose, find};
+use crate::pages::Pages;
 use crate::running::Running;
+use crate::space_pages::SLOTS;
+use ol_chunks::ChunkTable;
 use ol_model::{By, Entry, Event, History, Label, Labels, NoMemory, Record, Reply, Rid, Row, Why};
-use ol_page::{PAGE_LENGTH, set_slot, stamp};
+use ol_page::{PAGE_LENGTH, stamp};
 use std::alloc::Global;
 use std::marker::Model;
 
-/// The data pages of data1.
-const PAGES: usize = 8;
-
-/// The number of the space data1.
-const DATA: u8 = 1;
-
-/// The slots of a page.
-const SLOTS: u32 = 31;
-
 /// The engine over pages in memory: one session works, and one archiver.
 pub struct Core {
+    table: ChunkTable,
     journal: Vec<Record>,
     txn: Option<u64>,
     registers: [Option<Rid>; 10],
-    pages: Vec<[u8; PAGE_LENGTH]>,
-    rows: u32,
+    pages: Pages,
     next_archive: u64,
     archive: Option<Running>,
     history: History,
@@ -40,35 +34,18 @@ impl Model for Core {
 
     ghost Value = { Seen };
 
-    ghost view = { λ e. record { machine = machine_in e.journal.items e.txn e.registers e.next_archive e.archive; history = e.history } };
+    ghost view = { λ e. record { machine = machine_in e.table e.journal.items e.txn e.registers e.next_archive e.archive; history = e.history } };
 
-    ghost invariant = { λ e. IsKept e.journal.items e.txn e.pages.items e.rows e.next_archive e.archive e.history };
+    ghost invariant = { λ e. IsKept e.table e.journal.items e.txn e.pages e.next_archive e.archive e.history };
 }
 
-/// The images of the pages of data1 before any was changed.
-fn blank_pages(alloc: Global) -> Result<Vec<[u8; PAGE_LENGTH]>, NoMemory>
-    ensures { IfOk result (λ pages. pages.items ≡ replicate 8 (replicate 2048 0)) }
-{
-    let mut pages = Vec::new(alloc);
-    pages.resize(PAGES, [0; PAGE_LENGTH])?;
-    Ok(pages)
-}
-
-/// How many pages so many rows lie on, the slots of each page filled in order.
-fn pages_of(rows: u32) -> u32
-    requires { rows ≤ 248 }
-    ensures { result ≡ pages_used rows }
-{
-    rows.div_ceil(SLOTS)
-}
-
-/// The place of slot `i` of data1, over all its pages.
-fn slot_of(i: u32) -> Rid
-    requires { i < 248 }
-    ensures { result ≡ slot_at i }
+/// The place of slot `i` of a space, over all its pages.
+fn slot_of(space: u8, i: u32) -> Rid
+    requires { i < 65535 * 31 }
+    ensures { result ≡ slot_at space i }
 {
     Rid {
-        space: DATA,
+        space,
         page: (i / SLOTS) as u16,
         slot: (i % SLOTS) as u8,
     }
@@ -84,16 +61,6 @@ fn inserted(txn: u64, rid: Rid, row: &Row) -> Record
         before: None,
         after: Some(row.copy()),
     }
-}
-
-/// Puts a row into slot `i`, over all these pages, and the stamp on its page.
-fn put_row(pages: &mut [[u8; PAGE_LENGTH]], i: u32, row: &Row, stamp: u64)
-    requires { i / 31 < length pages.old }
-    ensures others { (k : ℕ) → k ≢ i / 31 → slice_index_or pages.new k [] ≡ slice_index_or pages.old k [] }
-    ensures image { (p : Page) → IsPage p → slice_index_or pages.old (i / 31) [] ≡ page_bytes p → slice_index_or pages.new (i / 31) [] ≡ page_bytes (with_slot p (i % 31) (Some row.now) stamp) }
-{
-    let image = &mut pages[(i / SLOTS) as usize];
-    set_slot(image, (i % SLOTS) as u8, Some(row.copy()), stamp);
 }
 
 /// Appends an entry.
@@ -127,24 +94,25 @@ fn append(journal: &mut Vec<Record>, added: Record)
 impl Core {
     ghost use Rattle.ol_model.specs.declared.history.Actor.TheVariants.{Session, Archiver};
     ghost use Rattle.ol_model.specs.declared.event.Event.TheVariants.{Begin as BeginTurn, Insert as InsertTurn, Commit as CommitTurn, ArchiveStart, ArchiveTurn, ArchiveEnd, ArchiveCancel};
-    ghost use Rattle.ol_core.specs.Core.{Takes, IsIdle, IsHere, ShowsCount, archive_in};
-    ghost use Rattle.ol_core.specs.Initial.{both_names, initial};
+    ghost use Rattle.ol_core.specs.Core.{Takes, IsIdle, IsThere, IsWithin, ShowsCount, archive_in};
+    ghost use Rattle.ol_model.specs.Config.{data_pages};
+    ghost use Rattle.ol_model.specs.Image.{page_bytes};
     ghost use Rattle.ol_model.specs.Journal.{page_at};
-    ghost use Rattle.ol_model.specs.Machine.{archive_of, journal_in};
+    ghost use Rattle.ol_model.specs.Machine.{archive_of, config_of, formatted, journal_in};
     ghost use Rattle.std.specs.Option.{option_map};
     ghost use Rattle.std.specs.Prelude.{IfSome};
 
-    /// The core of the initial installation, with the empty journal. It takes the memory for its pages.
-    pub fn new(alloc: Global) -> Result<Core, NoMemory>
-        ensures { IfOk result (λ c. c ≡ record { machine = initial; history = [] }) }
+    /// The core of a newly formatted installation, with the empty journal.
+    pub fn new(alloc: Global, table: ChunkTable) -> Result<Core, NoMemory>
+        ensures { IfOk result (λ c. c ≡ record { machine = formatted table; history = [] }) }
     {
-        let pages = blank_pages(alloc)?;
+        let pages = Pages::new(alloc, table.spaces())?;
         Ok(Core {
+            table,
             journal: Vec::new(alloc),
             txn: None,
             registers: [None; 10],
             pages,
-            rows: 0,
             next_archive: 1,
             archive: None,
             history: History::new(alloc),
@@ -172,12 +140,11 @@ impl Core {
         Ok(reply)
     }
 
-    /// A row goes into the least empty slot of data1, of which register `reg` (0 to 9) then tells.
+    /// A row goes into the least empty slot of a space, of which register `reg` (0 to 9) then tells.
     pub fn insert(&mut self, by: By, reg: u8, space: &Label, row: &Row) -> Result<Reply, NoMemory>
         requires actor { by.actor ≡ Session 1 }
         requires idle { IsIdle self.old }
         requires register { reg < 10 }
-        requires place { space.now ≡ codes "data1" }
         ensures ok { IfOk result (λ reply. Takes self.old by (InsertTurn reg space.now row.now) reply self.new) }
         ensures err { OnErr result (self.new ≡ self.old) }
     {
@@ -191,20 +158,26 @@ impl Core {
             answer(&mut self.history, by, event, &reply)?;
             return Ok(reply);
         };
-        if self.rows == SLOTS * PAGES as u32 {
-            let reply = Reply::SpaceFull { space: DATA };
+        let Some(space) = find(&self.table, space) else {
+            let reply = Reply::NoSpace;
+            answer(&mut self.history, by, event, &reply)?;
+            return Ok(reply);
+        };
+        let rows = self.pages.rows(space);
+        if rows == SLOTS * self.table.pages(space) {
+            let reply = Reply::SpaceFull { space };
             answer(&mut self.history, by, event, &reply)?;
             return Ok(reply);
         }
+        self.pages.make_room(space)?;
         self.journal.reserve(1)?;
-        let rid = slot_of(self.rows);
+        let rid = slot_of(space, rows);
         let reply = Reply::At { rid };
         answer(&mut self.history, by, event, &reply)?;
         let stamp = self.journal.len() as u64 + 1;
         append(&mut self.journal, inserted(txn, rid, row));
-        put_row(&mut self.pages, self.rows, row, stamp);
+        self.pages.put(space, row, stamp);
         self.registers[reg as usize] = Some(rid);
-        self.rows += 1;
         Ok(reply)
     }
 
@@ -229,10 +202,9 @@ impl Core {
         Ok(reply)
     }
 
-    /// An archive of level 0 of both spaces begins.
+    /// An archive of level 0 of these spaces begins.
     pub fn archive_start(&mut self, by: By, spaces: &Labels) -> Result<Reply, NoMemory>
         requires actor { by.actor ≡ Archiver 1 }
-        requires both { spaces.now ≡ both_names }
         ensures ok { IfOk result (λ reply. Takes self.old by (ArchiveStart 0 spaces.now) reply self.new) }
         ensures err { OnErr result (self.new ≡ self.old) }
     {
@@ -245,16 +217,22 @@ impl Core {
             answer(&mut self.history, by, event, &reply)?;
             return Ok(reply);
         }
+        let Some(spaces) = choose(&self.table, spaces) else {
+            let reply = Reply::NoSpace;
+            answer(&mut self.history, by, event, &reply)?;
+            return Ok(reply);
+        };
         let number = self.next_archive;
         let cut = self.journal.len() as u64;
         let low = self.txn.unwrap_or(cut + 1);
-        let pages = pages_of(self.rows);
+        let pages = self.pages.count(&spaces);
         let reply = Reply::Started { number, cut, pages };
         answer(&mut self.history, by, event, &reply)?;
         self.archive = Some(Running {
             number,
             cut,
             low,
+            spaces,
             passed: 0,
         });
         self.next_archive += 1;
@@ -265,7 +243,7 @@ impl Core {
     pub fn archive_turn(&mut self, by: By) -> Result<Reply, NoMemory>
         requires actor { by.actor ≡ Archiver 1 }
         ensures ok { IfOk result (λ reply. Takes self.old by ArchiveTurn reply self.new) }
-        ensures there { IfOk result IsHere }
+        ensures there { IfOk result (IsThere (config_of self.new.machine)) }
         ensures err { OnErr result (self.new ≡ self.old) }
     {
         let Some(archive) = self.archive else {
@@ -273,15 +251,12 @@ impl Core {
             answer(&mut self.history, by, Event::ArchiveTurn, &reply)?;
             return Ok(reply);
         };
-        if archive.passed == pages_of(self.rows) {
+        let Some((space, page)) = self.pages.page_behind(&archive.spaces, archive.passed) else {
             let reply = Reply::AllTaken;
             answer(&mut self.history, by, Event::ArchiveTurn, &reply)?;
             return Ok(reply);
-        }
-        let reply = Reply::PageIs {
-            space: DATA,
-            page: archive.passed as u16,
         };
+        let reply = Reply::PageIs { space, page };
         answer(&mut self.history, by, Event::ArchiveTurn, &reply)?;
         self.archive = Some(Running {
             passed: archive.passed + 1,
@@ -301,7 +276,7 @@ impl Core {
             answer(&mut self.history, by, Event::ArchiveEnd, &reply)?;
             return Ok(reply);
         };
-        let count = pages_of(self.rows) - archive.passed;
+        let count = self.pages.count(&archive.spaces) - archive.passed;
         if count > 0 {
             let reply = Reply::PagesLeft { count };
             answer(&mut self.history, by, Event::ArchiveEnd, &reply)?;
@@ -345,30 +320,40 @@ impl Core {
         Ok(reply)
     }
 
-    /// The image of a page of data1.
-    pub fn image(&self, page: u16) -> &[u8; PAGE_LENGTH]
-        requires { page < 8 }
-        ensures image { result.now ≡ page_bytes (page_at (journal_in self.now.machine) 1 page) }
+    /// The image of a data page.
+    pub fn image(&self, space: u8, page: u16) -> &[u8; PAGE_LENGTH]
+        requires space { space < length (config_of self.now.machine).spaces }
+        requires page { page < data_pages (config_of self.now.machine) space }
+        ensures image { result.now ≡ page_bytes (page_at (journal_in self.now.machine) space page) }
         ensures whole { length result.now ≡ 2048 }
     {
-        &self.pages[page as usize]
+        self.pages.image(space, page)
     }
 
-    /// The stamp of a page of data1.
-    pub fn stamp(&self, page: u16) -> u64
-        requires { page < 8 }
-        ensures { result ≡ (page_at (journal_in self.now.machine) 1 page).stamp }
+    /// The stamp of a data page.
+    pub fn stamp(&self, space: u8, page: u16) -> u64
+        requires space { space < length (config_of self.now.machine).spaces }
+        requires page { page < data_pages (config_of self.now.machine) space }
+        ensures { result ≡ (page_at (journal_in self.now.machine) space page).stamp }
     {
-        stamp(&self.pages[page as usize])
+        stamp(self.pages.image(space, page))
     }
 
     /// The running archive.
     pub fn running(&self) -> Option<Running>
         ensures value { option_map archive_in result ≡ archive_of self.now.machine 1 }
         ensures still { IfSome result (λ a. a.cut ≡ length (journal_in self.now.machine)) }
-        ensures few { IfSome result (λ a. a.passed ≤ 8) }
+        ensures few { IfSome result (IsWithin self.now.machine) }
+        ensures limit { IfSome result (λ a. a.passed ≤ 1048560) }
     {
         self.archive
+    }
+
+    /// The configuration.
+    pub fn table(&self) -> &ChunkTable
+        ensures { result.now ≡ config_of self.now.machine }
+    {
+        &self.table
     }
 
     /// The turns so far.
@@ -383,11 +368,11 @@ impl Core {
         ensures { result ≡ self.history }
     {
         let Core {
+            table: _,
             journal: _,
             txn: _,
             registers: _,
             pages: _,
-            rows: _,
             next_archive: _,
             archive: _,
             history,
