@@ -1,0 +1,33 @@
+-- What contracts see of devices that are files.
+use Rattle.std.specs.Global.{Global}
+use Rattle.std.specs.Prelude.{ℕ, ◌-◌, ◌^◌, Bool, if◌then◌else◌, List, Vec, map, min, slice_index, slice_set}
+use Rattle.ol_outside.specs.Causes.{risen}
+use Rattle.ol_outside.specs.Drive.{Tape}
+
+-- the pages of a chunk, which are a u32, where those of each are given
+abbrev pub pages_at : List ℕ → ℕ → ℕ
+pages_at sizes c = min (slice_index sizes c) (2 ^ 32 - 1)
+
+-- how often a chunk has failed, where the count of each is given
+abbrev pub faults_at : List ℕ → ℕ → ℕ
+faults_at counts c = slice_index counts c
+
+-- a call on a chunk more, which is one fault more of this chunk where it failed
+abbrev pub after_chunk_call : Bool → ℕ → List ℕ → List ℕ
+after_chunk_call failed c counts = if failed then slice_set counts c (risen (faults_at counts c)) else counts
+
+-- a call more, which is one fault more where it failed
+abbrev pub after_call : Bool → ℕ → ℕ
+after_call failed count = if failed then risen count else count
+
+pub record FileDriveState : Type 0 where
+  -- its volumes, of which it tells no block
+  pub tape : Tape
+  -- whether a sync has failed
+  pub lost : Bool
+  -- how often a call has failed
+  pub count : ℕ
+
+-- of each drive how many blocks each volume has
+abbrev pub block_counts : List (Vec ℕ Global) → List (List ℕ)
+block_counts drives = map (λ volumes. volumes.items) drives

@@ -1,0 +1,113 @@
+-- The options of a command line: `--dir DIR [--chunks P0,P1,..] [--blocks N] [--volumes N] WORD..`
+use Rattle.std.specs.Char.{is_ascii_digit}
+use Rattle.std.specs.Global.{Global}
+use Rattle.std.specs.List.{list_all, slice_split}
+use Rattle.std.specs.Option.{option_and_then, option_map}
+use Rattle.std.specs.Str.Parse.{digits_value}
+use Rattle.std.specs.Prelude.{Bool, Err, List, None, Ok, Option, Result, Some, String, [], bytes_eq, codes, false, if◌then◌else◌, length, map, nat_le, nat_lt, slice_index, string_bytes, ℕ, ◌&&◌, ◌==◌, ◌||◌, ◌∷◌, ◌≡◌}
+use Rattle.ol_devices.specs.declared.options.OptionFault.{OptionFault}
+use Rattle.ol_devices.specs.declared.options.OptionFault.TheVariants.{BadOptions, NoMemory}
+use Rattle.ol_devices.specs.declared.options.Options.{Options}
+
+pub record OptionLine : Type 0 where
+  -- the folder of the files
+  pub dir : List ℕ
+  -- the pages of the chunk files that are to be made where they are missing
+  pub chunks : List ℕ
+  -- how many blocks a volume takes
+  pub blocks : ℕ
+  -- how many further volumes a drive mounts
+  pub volumes : ℕ
+  -- the words of the command
+  pub words : List (List ℕ)
+
+-- ---- values
+
+-- digits without a leading zero, of a number from 1 to 4,294,967,295
+abbrev pub is_number : List ℕ → Bool
+is_number word = list_all is_ascii_digit word && (nat_lt 48 (slice_index word 0) && nat_le (digits_value 10 word) 4294967295)
+
+-- the number that a word is in decimal
+abbrev pub number_of : List ℕ → Option ℕ
+number_of word = if is_number word then Some (digits_value 10 word) else None
+
+-- a number in front of numbers, where there are both
+abbrev pub with_number : Option ℕ → Option (List ℕ) → Option (List ℕ)
+with_number None numbers = None
+with_number (Some n) None = None
+with_number (Some n) (Some numbers) = Some (n ∷ numbers)
+
+-- the numbers that words are, where each is one
+abbrev pub numbers_of : List (List ℕ) → Option (List ℕ)
+numbers_of [] = Some []
+numbers_of (word ∷ words) = with_number (number_of word) (numbers_of words)
+
+-- at most 32 numbers, with one comma between two
+abbrev pub chunk_list : List ℕ → Option (List ℕ)
+chunk_list word = option_and_then (λ numbers. if nat_le (length numbers) 32 then Some numbers else None) (numbers_of (slice_split (λ b. b == 44) word))
+
+-- ---- options
+
+-- a number as the first word, and the words behind it
+abbrev pub number_then : List (List ℕ) → Option (ℕ × List (List ℕ))
+number_then [] = None
+number_then (value ∷ words) = option_map (λ n. (n, words)) (number_of value)
+
+-- the value of an option of this name and the words behind it, or where it isn't next the value that then counts
+abbrev pub number_option : List ℕ → ℕ → List (List ℕ) → Option (ℕ × List (List ℕ))
+number_option name default [] = Some (default, [])
+number_option name default (word ∷ words) = if bytes_eq word name then number_then words else Some (default, word ∷ words)
+
+-- likewise of a list of numbers
+abbrev pub list_then : List (List ℕ) → Option (List ℕ × List (List ℕ))
+list_then [] = None
+list_then (value ∷ words) = option_map (λ numbers. (numbers, words)) (chunk_list value)
+
+abbrev pub list_option : List (List ℕ) → Option (List ℕ × List (List ℕ))
+list_option [] = Some ([], [])
+list_option (word ∷ words) = if bytes_eq word (codes "--chunks") then list_then words else Some ([], word ∷ words)
+
+-- the name of an option
+abbrev pub is_option : List ℕ → Bool
+is_option word = (bytes_eq word (codes "--dir") || bytes_eq word (codes "--chunks")) || (bytes_eq word (codes "--blocks") || bytes_eq word (codes "--volumes"))
+
+-- an option is next, which has no place any more
+abbrev pub is_option_next : List (List ℕ) → Bool
+is_option_next [] = false
+is_option_next (word ∷ words) = is_option word
+
+-- ---- a line
+
+-- the line of these options, where none comes twice or behind its place
+abbrev pub ended : List ℕ → List ℕ → ℕ → ℕ × List (List ℕ) → Option OptionLine
+ended dir chunks blocks last =
+    if is_option_next last.1 then None
+    else Some (record { dir = dir; chunks = chunks; blocks = blocks; volumes = last.0; words = last.1 })
+
+abbrev pub volumes_next : List ℕ → List ℕ → ℕ × List (List ℕ) → Option OptionLine
+volumes_next dir chunks blocks = option_and_then (ended dir chunks blocks.0) (number_option (codes "--volumes") 1000 blocks.1)
+
+abbrev pub blocks_next : List ℕ → List ℕ × List (List ℕ) → Option OptionLine
+blocks_next dir chunks = option_and_then (volumes_next dir chunks.0) (number_option (codes "--blocks") 100000 chunks.1)
+
+-- what the words of a command line give, where they are of the form
+abbrev pub options_of : List (List ℕ) → Option OptionLine
+options_of [] = None
+options_of (word ∷ []) = None
+options_of (word ∷ dir ∷ words) = if bytes_eq word (codes "--dir") then option_and_then (blocks_next dir) (list_option words) else None
+
+-- ---- what the parser gives
+
+-- the bytes of words
+abbrev pub texts : List (String Global) → List (List ℕ)
+texts words = map (λ word. string_bytes word) words
+
+-- the line that options stand for
+abbrev pub line_of : Options → OptionLine
+line_of o = record { dir = o.dir.now; chunks = o.chunks.items; blocks = o.blocks; volumes = o.volumes; words = texts o.words.now }
+
+-- the options are those of the line, and are refused exactly where the line has none; want of memory tells nothing
+abbrev pub AnswersLine : Option OptionLine → Result Options OptionFault → Type 0
+AnswersLine line (Ok o) = line ≡ Some (line_of o)
+AnswersLine line (Err BadOptions) = line ≡ None
+AnswersLine line (Err NoMemory) = Unit {0}

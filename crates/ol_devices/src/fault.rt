@@ -1,0 +1,16 @@
+//! The count of the faults of a device.
+
+ghost use Rattle.std.specs.Prelude.{◌≡◌, ◌≤◌};
+ghost use Rattle.ol_outside.specs.Causes.{Rose, risen};
+
+use ol_outside::Failed;
+
+/// Counts a fault, up to the greatest `u64`.
+pub(crate) fn fault(count: &mut u64) -> Failed
+    ensures counted { count.new ≡ risen count.old }
+    ensures later { count.old ≤ count.new }
+    ensures cause { Rose count.old count.new }
+{
+    *count = count.saturating_add(1);
+    Failed
+}

@@ -1,0 +1,203 @@
+//! The options of a command line.
+
+ghost use Rattle.std.specs.Prelude.{◌≡◌, ◌<◌, ◌==◌, ◌∷◌, IfOk, IfSome, length, position};
+ghost use Rattle.std.specs.List.{slice_split};
+ghost use Rattle.std.specs.Option.{option_map};
+ghost use Rattle.ol_devices.specs.OptionLine.{AnswersLine, chunk_list, is_option, is_option_next, list_option, number_of as number_of_bytes, number_option, numbers_of as numbers_of_words, options_of, texts};
+ghost use Rattle.ol_devices.specs.Pieces.{pieces_behind, with_texts, list_with_texts};
+
+use crate::disk_file::CHUNKS;
+use ol_outside::NoMemory;
+use std::alloc::Global;
+
+/// The blocks of a volume and the volumes of a drive, where no option gives them.
+const BLOCKS: u32 = 100_000;
+
+const VOLUMES: u32 = 1_000;
+
+/// The greatest number that an option may have.
+const NUMBER_LIMIT: u64 = 4_294_967_295;
+
+/// The options that a command line begins with, and the words of its command.
+#[derive(Debug, Drop)]
+pub struct Options<'a> {
+    /// The folder of the chunk files and the volumes.
+    pub dir: &'a str,
+    /// The pages of the chunk files that are to be made where they are missing, counted from chunk 0;
+    /// none where no list is given.
+    pub chunks: Vec<u32>,
+    /// How many blocks a volume takes.
+    pub blocks: u32,
+    /// How many further volumes each drive mounts.
+    pub volumes: u32,
+    /// The words behind the options.
+    pub words: &'a [String],
+}
+
+/// Why there are no options.
+#[derive(Clone, Copy, Debug, PartialEq, Eq)]
+pub enum OptionFault {
+    /// The words are off the form.
+    BadOptions,
+    /// Memory was refused.
+    NoMemory,
+}
+
+/// Reads the options `--dir DIR [--chunks P0,P1,..] [--blocks N] [--volumes N]` at the head of a command
+/// line, without the program's name. They stand in this order, each at most once and with its value in the
+/// next word. `N` and each of the 1 to 32 `P` are decimal numbers from 1 to 4,294,967,295 without leading
+/// zeros. A volume takes 100,000 blocks and a drive 1,000 volumes where the line doesn't say.
+///
+/// `BadOptions` exactly where the words are off this form, also where the word behind the options is the
+/// name of one; `NoMemory` where memory for the list is refused.
+pub fn parse_options(alloc: Global, words: &[String]) -> Result<Options<'_>, OptionFault>
+    ensures { AnswersLine (options_of (texts words.now)) result }
+{
+    let [option, dir, behind @ ..] = words else {
+        return Err(OptionFault::BadOptions);
+    };
+    if option.as_bytes() != b"--dir".as_slice() {
+        return Err(OptionFault::BadOptions);
+    }
+    let (chunks, behind) = match list_option(alloc, behind) {
+        Ok(Some(given)) => given,
+        Ok(None) => return Err(OptionFault::BadOptions),
+        Err(_) => return Err(OptionFault::NoMemory),
+    };
+    let Some((blocks, behind)) = number_option(b"--blocks", BLOCKS, behind) else {
+        return Err(OptionFault::BadOptions);
+    };
+    let Some((volumes, words)) = number_option(b"--volumes", VOLUMES, behind) else {
+        return Err(OptionFault::BadOptions);
+    };
+    if is_option_next(words) {
+        return Err(OptionFault::BadOptions);
+    }
+    Ok(Options {
+        dir: dir.as_str(),
+        chunks,
+        blocks,
+        volumes,
+        words,
+    })
+}
+
+// The value of an option of this name and the words behind it, or where it isn't next the value that then
+// counts; None where its value is missing or is no number.
+fn number_option<'a>(name: &[u8], default: u32, words: &'a [String]) -> Option<(u32, &'a [String])>
+    ensures { option_map with_texts result ≡ number_option name.now default (texts words.now) }
+{
+    let Some((option, behind)) = words.split_first() else {
+        return Some((default, words));
+    };
+    if option.as_bytes() != name {
+        return Some((default, words));
+    }
+    let (value, rest) = behind.split_first()?;
+    let number = number_of(value.as_bytes())?;
+    Some((number, rest))
+}
+
+// The numbers of the list of chunks and the words behind it, none where it isn't next; None where it is
+// missing or is off its form.
+fn list_option(alloc: Global, words: &[String]) -> Result<Option<(Vec<u32>, &[String])>, NoMemory>
+    ensures { IfOk result (λ given. option_map list_with_texts given ≡ list_option (texts words.now)) }
+{
+    let Some((option, behind)) = words.split_first() else {
+        return Ok(Some((Vec::new(alloc), words)));
+    };
+    if option.as_bytes() != b"--chunks".as_slice() {
+        return Ok(Some((Vec::new(alloc), words)));
+    }
+    let Some((value, rest)) = behind.split_first() else {
+        return Ok(None);
+    };
+    match chunk_list(alloc, value.as_bytes()) {
+        Ok(Some(numbers)) => Ok(Some((numbers, rest))),
+        Ok(None) => Ok(None),
+        Err(refused) => Err(refused),
+    }
+}
+
+// At most 32 numbers, with one comma between two; None where the text is off this form.
+fn chunk_list(alloc: Global, text: &[u8]) -> Result<Option<Vec<u32>>, NoMemory>
+    ensures { IfOk result (λ numbers. option_map (λ v. v.items) numbers ≡ chunk_list text.now) }
+{
+    match numbers_of(alloc, text) {
+        Ok(Some(numbers)) if numbers.len() <= CHUNKS => Ok(Some(numbers)),
+        Ok(_) => Ok(None),
+        Err(refused) => Err(refused),
+    }
+}
+
+// The numbers of a text, with one comma between two; None where a piece is no number.
+fn numbers_of(alloc: Global, text: &[u8]) -> Result<Option<Vec<u32>>, NoMemory>
+    ensures { IfOk result (λ numbers. option_map (λ v. v.items) numbers ≡ numbers_of_words (slice_split (λ b. b == 44) text.now)) }
+{
+    let mut numbers = Vec::new(alloc);
+    let mut rest = Some(text);
+    while let Some(pieces) = rest {
+        let (piece, behind) = cut(pieces);
+        let Some(number) = number_of(piece) else {
+            return Ok(None);
+        };
+        numbers.push(number)?;
+        rest = behind;
+    }
+    Ok(Some(numbers))
+}
+
+// The text in front of the first comma, or all of it, and what stands behind the comma.
+fn cut(text: &[u8]) -> (&[u8], Option<&[u8]>)
+    ensures pieces { slice_split (λ b. b == 44) text.now ≡ result.0.now ∷ pieces_behind result.1 }
+    ensures shorter { IfSome result.1 (λ rest. length rest.now < length text.now) }
+{
+    match comma_in(text) {
+        Some(end) => (&text[..end], Some(&text[end + 1..])),
+        None => (text, None),
+    }
+}
+
+fn comma_in(text: &[u8]) -> Option<usize>
+    ensures { result ≡ position (λ b. b == 44) text.now }
+{
+    text.iter().position(|b| *b == b',')
+}
+
+// The number from 1 to 4,294,967,295 that a word is in decimal; None where it is none or has a leading zero.
+fn number_of(word: &[u8]) -> Option<u32>
+    ensures { result ≡ number_of_bytes word.now }
+{
+    if word.is_empty() || word[0] == b'0' {
+        return None;
+    }
+    let mut value = 0;
+    for digit in word {
+        if !digit.is_ascii_digit() {
+            return None;
+        }
+        value = value * 10 + u64::from(*digit - b'0');
+        if value > NUMBER_LIMIT {
+            return None;
+        }
+    }
+    Some(value as u32)
+}
+
+// Whether the word is the name of an option.
+fn is_option(word: &[u8]) -> bool
+    ensures { result ≡ is_option word.now }
+{
+    (word == b"--dir".as_slice() || word == b"--chunks".as_slice())
+        || (word == b"--blocks".as_slice() || word == b"--volumes".as_slice())
+}
+
+// Whether an option is next.
+fn is_option_next(words: &[String]) -> bool
+    ensures { result ≡ is_option_next (texts words.now) }
+{
+    match words {
+        [] => false,
+        [word, ..] => is_option(word.as_bytes()),
+    }
+}
