@@ -1,87 +1,111 @@
-//! The program: a command over standard input and standard output, with tape drives in memory.
+//! The program: a command over chunk files, volume files, standard input and standard output.
 #![tactic(auto)]
-
-mod streams;
 
 ghost use Rattle.std.specs.Prelude.{◌≡◌, All, IfOk, length};
 
-use crate::streams::{ReaderSource, WriterSink};
-use ol_online::{Rig, Status, Words, command};
-use ol_outside::MemoryDrive;
+use ol_devices::{
+    FileDisk, FileDrive, FileShelf, OptionFault, Options, ReaderSource, WriterSink, parse_options,
+};
+use ol_online::{Rig, Status, Words, command, write_status};
 use std::alloc::{AllocError, Global};
 use std::env;
 use std::io::{BufReader, ErrorKind};
 use std::process::ExitCode;
-use std::rt::Env;
 
-/// The blocks of a volume, and the volumes of a drive.
-const BLOCKS: u32 = 100_000;
-
-const VOLUMES: u32 = 1_000;
-
-/// The words of the command line.
-fn words_given(rt: &(impl Env + AllocGlobal)) -> Result<Words, AllocError> {
-    let mut words = Words::new(rt.alloc());
+/// The arguments of the command line without the program's name; None where one of them is not text.
+fn arguments(rt: &HostRuntime) -> Result<Option<Vec<String>>, AllocError> {
+    let mut given = Vec::new(rt.alloc());
     let arguments = match env::args(rt) {
         Ok(arguments) => arguments,
         Err(error) if error.kind() == ErrorKind::OutOfMemory => return Err(AllocError),
-        // an argument that is not text is no word of a command, as no words are none
-        Err(_) => return Ok(words),
+        Err(_) => return Ok(None),
     };
-    // the first is the program's name
     for argument in arguments.skip(1) {
-        words.push(argument.as_str())?;
+        given.push(argument)?;
+    }
+    Ok(Some(given))
+}
+
+/// The words of a command.
+fn words_of(alloc: Global, given: &[String]) -> Result<Words, AllocError> {
+    let mut words = Words::new(alloc);
+    for word in given {
+        words.push(word.as_str())?;
     }
     Ok(words)
 }
 
-/// A drive with empty volumes, whose calls do not fail.
-fn drive(alloc: Global) -> Result<MemoryDrive, AllocError>
-    ensures { IfOk result (λ drive. drive.tape.room ≡ 0) }
-{
-    MemoryDrive::new(alloc, BLOCKS, VOLUMES, &[])
-}
-
-/// The drives 0 to 4.
-fn five_drives(alloc: Global) -> Result<Vec<MemoryDrive>, AllocError>
+/// The drives 0 to 4 of a folder.
+fn five_drives(rt: &HostRuntime, options: &Options) -> Result<Vec<FileDrive>, AllocError>
     ensures five { IfOk result (λ drives. length drives.items ≡ 5) }
     ensures unmounted { IfOk result (λ drives. All (λ drive. drive.tape.room ≡ 0) drives.items) }
 {
     let drives = [
-        drive(alloc)?,
-        drive(alloc)?,
-        drive(alloc)?,
-        drive(alloc)?,
-        drive(alloc)?,
+        drive(rt, options, 0)?,
+        drive(rt, options, 1)?,
+        drive(rt, options, 2)?,
+        drive(rt, options, 3)?,
+        drive(rt, options, 4)?,
     ];
-    Ok(Vec::from_array(alloc, drives)?)
+    Ok(Vec::from_array(rt.alloc(), drives)?)
 }
 
-/// Runs the command of the words.
-fn run(rt: &HostRuntime) -> Result<Status, AllocError> {
+/// The drive of this number.
+fn drive(rt: &HostRuntime, options: &Options, number: u8) -> Result<FileDrive, AllocError>
+    ensures { IfOk result (λ drive. drive.tape.room ≡ 0) }
+{
+    FileDrive::new(rt, options.dir, number, options.blocks, options.volumes)
+}
+
+/// Writes the status of a command line that is none, and gives it.
+fn refuse(rt: &HostRuntime) -> Status {
+    let mut sink = WriterSink::new(rt.stdout());
+    // where it can't be written, the exit status still says it
+    let _ = write_status(&mut sink, Status::BadWords);
+    let _ = sink.flush();
+    Status::BadWords
+}
+
+/// Carries out the command that stands behind the options.
+fn carry_out(rt: &HostRuntime, options: &Options) -> Result<Status, AllocError> {
     let alloc = rt.alloc();
-    let words = words_given(rt)?;
+    let words = words_of(alloc, options.words)?;
+    let disk = FileDisk::open(rt, options.dir, &options.chunks)?;
+    let drives = five_drives(rt, options)?;
+    let shelf = FileShelf::open(rt, options.dir)?;
     let Ok(input) = BufReader::new(alloc, rt.stdin()) else {
         return Err(AllocError);
     };
     let mut source = ReaderSource::new(input);
-    let rig = Rig {
-        disk: (),
-        drives: five_drives(alloc)?,
-        shelf: (),
-    };
     let mut sink = WriterSink::new(rt.stdout());
+    let rig = Rig {
+        disk,
+        drives,
+        shelf,
+    };
     let (rig, status, _) = command(alloc, &words, rig, &mut source, &mut sink);
     let Rig {
-        disk: (),
+        disk: _,
         drives: _,
-        shelf: (),
+        shelf: _,
     } = rig;
     // what is held back is part of the output
     if sink.flush().is_err() && status == Status::Ok {
         return Ok(Status::WriteFault);
     }
     Ok(status)
+}
+
+/// Runs the command of the command line.
+fn run(rt: &HostRuntime) -> Result<Status, AllocError> {
+    let Some(arguments) = arguments(rt)? else {
+        return Ok(refuse(rt));
+    };
+    match parse_options(rt.alloc(), &arguments) {
+        Ok(options) => carry_out(rt, &options),
+        Err(OptionFault::BadOptions) => Ok(refuse(rt)),
+        Err(OptionFault::NoMemory) => Err(AllocError),
+    }
 }
 
 fn main(rt: HostRuntime) -> ExitCode {

@@ -1,24 +1,28 @@
--- How a command ends: its output in two pieces, its status, and its drive lent from the rig and put back.
-use Rattle.std.specs.Prelude.{Err, List, None, Ok, OnErr, Option, Result, Some, length, take, true, ℕ, ◌++◌, ◌+◌, ◌<◌, ◌≡◌, ◌≢◌, ◌≤◌, ◌⊎◌, refl}
-use Rattle.std.proofs.Common.{ap, append_assoc, arith, drop, inl, inr, subst, sym, ◌∙◌}
+-- How a command ends: its output in two pieces, and its status.
+use Rattle.std.specs.Prelude.{Err, IfErr, List, Ok, OnErr, OnOk, Option, Result, Some, length, refl, take, ℕ, ◌++◌, ◌+◌, ◌≡◌}
+use Rattle.std.proofs.Common.{ap, append_assoc, arith, drop, inl, subst, sym, ◌∙◌}
 use Rattle.std.proofs.lemmas.List.{take-append-drop, take_all}
 use Rattle.std.proofs.Math.Seq.{take-append-add, take-append_seam}
 use Rattle.std.specs.Io.KnownBytes.{Appends}
+use Rattle.ol_chunks.proofs.AgainLaws.{read_again}
+use Rattle.ol_chunks.specs.Limits.{IsConfig}
+use Rattle.ol_chunks.specs.Reading.{config_of}
+use Rattle.ol_model.specs.Config.{Config, config_text}
+use Rattle.ol_outside.proofs.Moves.{appends_both}
+use Rattle.ol_outside.specs.Disk.{Bytes, Past}
+use Rattle.ol_volume.specs.Written.{Written}
+use Rattle.ol_online.specs.declared.told.Told.TheVariants.{Nothing}
+use Rattle.ol_online.specs.declared.status.Status.{Status}
+use Rattle.ol_online.specs.declared.words.Verb.{Verb}
+use Rattle.ol_online.specs.declared.words.Verb.TheVariants.{Play}
 use Rattle.ol_model.specs.declared.history.Entry.{Entry}
 use Rattle.ol_model.specs.declared.line.Line.{Line}
-use Rattle.ol_model.specs.History.{journal_of}
-use Rattle.ol_outside.specs.Causes.{IsCalm, Rose}
-use Rattle.ol_outside.specs.Drive.{capacity}
-use Rattle.ol_volume.specs.Written.{Written}
-use Rattle.ol_core.specs.Initial.{initial}
-use Rattle.ol_online.specs.declared.status.Status.{Status}
-use Rattle.ol_online.specs.declared.status.Status.TheVariants.{BadScript, BadWords, NoMemory, Ok as Done, OutOfTape, ReadFault, TapeFault, WriteFault}
-use Rattle.ol_online.specs.Command.{EndsCommand, EndsReading, PlayedTo, script_limit}
-use Rattle.ol_model.specs.declared.record.Record.{Record}
-use Rattle.ol_online.specs.Playing.{PlaysWell, due, whole_archive}
-use Rattle.ol_online.specs.Script.{script_of}
-use Rattle.ol_online.specs.Words.{is_play}
-use Rattle.ol_online.proofs.Moves.{appends_both}
+use Rattle.ol_outside.specs.Drive.{Tape}
+use Rattle.ol_volume.specs.declared.writer.TapeEnd.TheVariants.{OutOfTape as OutEnd, TapeFault as FaultEnd}
+use Rattle.ol_online.specs.declared.archive.PlayEnd.{PlayEnd}
+use Rattle.ol_online.specs.declared.archive.PlayEnd.TheVariants.{NoMemory as Starved, Tape as TapeStop}
+use Rattle.ol_online.specs.Command.{EndsUnplayed, EndsWork, PlayedTo, drive_1, status_of_play}
+use Rattle.ol_online.specs.Playing.{PlaysShort, PlaysWell}
 
 -- ---- the output
 
@@ -39,67 +43,55 @@ front_part old new front back p =
 pub whole_part : (old new : Option (List ℕ)) (whole : List ℕ) → Appends old new whole → (n : ℕ) × Appends old new (take n whole)
 whole_part old new whole a = (length whole, subst (λ (l : List ℕ). Appends old new l) (sym (take_all (length whole) whole (omega (arith)))) a)
 
--- ---- the status
+-- ---- the work
 
-played_told : (lines : List Line) (archive : Option Line) (w v : Written) (h : List Entry) (rose : Type 0) (status told : Status)
-    → (told ≡ status) ⊎ ((status ≡ Done) × (told ≡ WriteFault) × rose) → PlayedTo lines archive w h v status → PlayedTo lines archive w h v told
-played_told lines archive w v h rose status told (inl is) p = subst (λ (s : Status). PlayedTo lines archive w h v s) (sym is) p
-played_told lines archive w v h rose status told (inr is) p =
-    let well : PlaysWell lines archive w h v = subst (λ (s : Status). PlayedTo lines archive w h v s) is.0 p in
-    subst (λ (s : Status). PlayedTo lines archive w h v s) (sym is.1) well
+-- the text of a table, of which the first bytes are read again
+pub text_again : (c : Config) (n : ℕ) (buf rest : List ℕ) → IsConfig c → n ≡ length (config_text c) → buf ≡ config_text c ++ rest → config_of (take n buf) ≡ Ok c
+text_again c n buf rest config count is =
+    let front : take n buf ≡ config_text c = subst (λ (k : ℕ). take k buf ≡ config_text c) (sym count) (ap (λ (l : List ℕ). take (length (config_text c)) l) is ∙ take-append_seam (config_text c) rest) in
+    ap (λ (l : List ℕ). config_of l) front ∙ read_again c config
 
-reading_told : (left : Option (List ℕ)) (before after : ℕ) (rose : Type 0) (status told : Status)
-    → (told ≡ status) ⊎ ((status ≡ Done) × (told ≡ WriteFault) × rose) → EndsReading left before after status → EndsReading left before after told
-reading_told left before after rose status told (inl is) p = subst (λ (s : Status). EndsReading left before after s) (sym is) p
-reading_told left before after rose status told (inr is) p = absurd (subst (λ (s : Status). EndsReading left before after s) is.0 p)
+-- a play of which nothing was played
+pub ends_unplayed : (verb : Option Verb) (left : Option (List ℕ)) (before after : ℕ) (tells : Type 0) (d : Bytes) (sizes : ℕ → ℕ) (past : Past) (w : Written) (status : Status)
+    → verb ≡ Some Play → EndsUnplayed left before after tells d sizes status → EndsWork verb left before after tells d sizes past w Nothing w status
+ends_unplayed verb left before after tells d sizes past w status is e =
+    subst (λ (v : Option Verb). EndsWork v left before after tells d sizes past w Nothing w status) (sym is) (inl ((refl, refl), e))
 
-bad_words : (rose : Type 0) (status told : Status) → (told ≡ status) ⊎ ((status ≡ Done) × (told ≡ WriteFault) × rose) → status ≡ BadWords → told ≡ BadWords
-bad_words rose status told (inl is) p = is ∙ p
-bad_words rose status told (inr is) p = cc
+-- ---- the play
 
--- the status that is told for the one that the work ended with
-pub ended_told : (words : List (List ℕ)) (left : Option (List ℕ)) (before after : ℕ) (w v : Written) (h : List Entry) (rose : Type 0) (status told : Status)
-    → (told ≡ status) ⊎ ((status ≡ Done) × (told ≡ WriteFault) × rose) → EndsCommand words left before after w h v status → EndsCommand words left before after w h v told
-ended_told words left before after w v h rose status told is (inl e) = inl (e.0, bad_words rose status told is e.1, e.2)
-ended_told words left before after w v h rose status told is (inr (is_play_word, inl e)) = inr (is_play_word, inl (reading_told left before after rose status told is e.0, e.1))
-ended_told words left before after w v h rose status told is (inr (is_play_word, inr p)) =
-    inr (is_play_word, inr (record { script = p.script; says = p.says; sessions = p.sessions; archive = p.archive; played = played_told _ _ w v h rose status told is p.played }))
+written_is : (w : Written) (tape : Tape) (faults : ℕ) → w.tape ≡ tape → w.faults ≡ faults → w.number ≡ 1 → w ≡ drive_1 tape faults
+written_is w tape faults t f n = λ i. record { tape = t i; faults = f i; number = n i }
 
--- ---- a command of which no count of faults rose
+-- how a play ended early says nothing of the drive's number
+short_by : (c : Config) (lines : List Line) (archive : Option Line) (w v : Written) (h : List Entry) (tape : Tape) (faults : ℕ) (end : PlayEnd)
+    → v.tape ≡ tape → v.faults ≡ faults → PlaysShort c lines archive w h v end → PlaysShort c lines archive w h (drive_1 tape faults) end
+short_by c lines archive w v h tape faults Starved t f s =
+    subst (λ (x : Tape). PlaysShort c lines archive w h (drive_1 x faults) Starved) t s
+short_by c lines archive w v h tape faults (TapeStop (FaultEnd drive count)) t f s =
+    subst (λ (x : Tape). PlaysShort c lines archive w h (drive_1 x faults) (TapeStop (FaultEnd drive count))) t
+    (subst (λ (n : ℕ). PlaysShort c lines archive w h (drive_1 v.tape n) (TapeStop (FaultEnd drive count))) f s)
+short_by c lines archive w v h tape faults (TapeStop (OutEnd drive)) t f s =
+    subst (λ (x : Tape). PlaysShort c lines archive w h (drive_1 x faults) (TapeStop (OutEnd drive))) t
+    (subst (λ (n : ℕ). PlaysShort c lines archive w h (drive_1 v.tape n) (TapeStop (OutEnd drive))) f s)
 
-no_fault : (before after : ℕ) → Rose before after → IsCalm before after → ⊥
-no_fault before after rose calm = omega (arith, rose, calm)
+ended_play : (c : Config) (lines : List Line) (archive : Option Line) (w v : Written) (h : List Entry) (tape : Tape) (faults : ℕ) (end : Result Unit PlayEnd)
+    → w.number ≡ 1 → v.tape ≡ tape → v.faults ≡ faults → OnOk end (PlaysWell c lines archive w h v) → IfErr end (PlaysShort c lines archive w h v)
+    → PlayedTo c lines archive w h (drive_1 tape faults) (status_of_play end)
+ended_play c lines archive w v h tape faults (Ok u) n t f well short =
+    subst (λ (x : Written). PlaysWell c lines archive w h x) (written_is v tape faults t f (well.wrote.number ∙ n)) well
+ended_play c lines archive w v h tape faults (Err Starved) n t f well short = short_by c lines archive w v h tape faults Starved t f short
+ended_play c lines archive w v h tape faults (Err (TapeStop (FaultEnd drive count))) n t f well short =
+    (count, short_by c lines archive w v h tape faults (TapeStop (FaultEnd drive count)) t f short)
+ended_play c lines archive w v h tape faults (Err (TapeStop (OutEnd drive))) n t f well short =
+    short_by c lines archive w v h tape faults (TapeStop (OutEnd drive)) t f short
 
-calm_reading : (left : Option (List ℕ)) (bytes : List ℕ) (lines : List Line) (before after : ℕ) (status : Status) → left ≡ Some bytes → script_of (take script_limit bytes) ≡ Ok lines → IsCalm before after
-    → EndsReading left before after status → status ≡ NoMemory
-calm_reading left bytes lines before after (BadScript line) is reads calm e = let bad = e bytes is in cc
-calm_reading left bytes lines before after ReadFault is reads calm e = absurd (no_fault before after e calm)
-calm_reading left bytes lines before after NoMemory is reads calm e = refl
-calm_reading left bytes lines before after Done is reads calm e = absurd e
-calm_reading left bytes lines before after BadWords is reads calm e = absurd e
-calm_reading left bytes lines before after WriteFault is reads calm e = absurd e
-calm_reading left bytes lines before after (TapeFault drive) is reads calm e = absurd e
-calm_reading left bytes lines before after (OutOfTape drive) is reads calm e = absurd e
-
-no_room : (archive : Option Line) (journal : List Record) (room : ℕ) → room < length (due archive journal) → length (whole_archive journal) ≤ room → ⊥
-no_room None journal room few enough = omega (arith, few)
-no_room (Some line) journal room few enough = omega (arith, few, enough)
-
-calm_play : (lines : List Line) (archive : Option Line) (w v : Written) (h : List Entry) (status : Status) → status ≢ WriteFault → IsCalm w.faults v.faults → length (whole_archive (journal_of initial h)) ≤ capacity w.tape
-    → PlayedTo lines archive w h v status → (status ≡ Done) ⊎ (status ≡ NoMemory)
-calm_play lines archive w v h Done not_write calm enough p = inl refl
-calm_play lines archive w v h NoMemory not_write calm enough p = inr refl
-calm_play lines archive w v h WriteFault not_write calm enough p = absurd (not_write refl)
-calm_play lines archive w v h (TapeFault drive) not_write calm enough (count, (legal, part, (d, c, rose), tells)) = absurd (no_fault w.faults v.faults rose calm)
-calm_play lines archive w v h (OutOfTape drive) not_write calm enough (legal, part, (d, few, room, rooms, faults), tells) = absurd (no_room archive (journal_of initial h) (capacity w.tape) few enough)
-calm_play lines archive w v h BadWords not_write calm enough p = absurd p
-calm_play lines archive w v h ReadFault not_write calm enough p = absurd p
-calm_play lines archive w v h (BadScript line) not_write calm enough p = absurd p
-
--- where no count rose, and the volumes take the archive, a script was played to its end, or memory was wanted
-pub calm_command : (words : List (List ℕ)) (left : Option (List ℕ)) (bytes : List ℕ) (lines : List Line) (before after : ℕ) (w v : Written) (h : List Entry) (status : Status)
-    → is_play words ≡ true → left ≡ Some bytes → script_of (take script_limit bytes) ≡ Ok lines → IsCalm before after → IsCalm w.faults v.faults → length (whole_archive (journal_of initial h)) ≤ capacity w.tape
-    → status ≢ WriteFault → EndsCommand words left before after w h v status → (status ≡ Done) ⊎ (status ≡ NoMemory)
-calm_command words left bytes lines before after w v h status play is reads calm tape_calm enough not_write (inl e) = cc
-calm_command words left bytes lines before after w v h status play is reads calm tape_calm enough not_write (inr (word, inl e)) = inr (calm_reading left bytes lines before after status is reads calm e.0)
-calm_command words left bytes lines before after w v h status play is reads calm tape_calm enough not_write (inr (word, inr p)) = calm_play _ _ w v h status not_write tape_calm enough p.played
+-- the play of lines that are given in two parts, on a drive that is lent to a writer
+pub played_on : (c : Config) (given lines : List Line) (told archive : Option Line) (w v : Written) (h : List Entry) (before after : Tape) (faults_before faults_after : ℕ) (end : Result Unit PlayEnd)
+    → given ≡ lines → told ≡ archive → w.tape ≡ before → w.faults ≡ faults_before → w.number ≡ 1 → v.tape ≡ after → v.faults ≡ faults_after
+    → OnOk end (PlaysWell c given told w h v) → IfErr end (PlaysShort c given told w h v)
+    → PlayedTo c lines archive (drive_1 before faults_before) h (drive_1 after faults_after) (status_of_play end)
+played_on c given lines told archive w v h before after faults_before faults_after end whole line t f n vt vf well short =
+    subst (λ (l : List Line). PlayedTo c l archive (drive_1 before faults_before) h (drive_1 after faults_after) (status_of_play end)) whole
+    (subst (λ (o : Option Line). PlayedTo c given o (drive_1 before faults_before) h (drive_1 after faults_after) (status_of_play end)) line
+    (subst (λ (x : Written). PlayedTo c given told x h (drive_1 after faults_after) (status_of_play end)) (written_is w before faults_before t f n)
+    (ended_play c given told w v h after faults_after end n vt vf well short)))

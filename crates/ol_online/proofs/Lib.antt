@@ -1,9 +1,11 @@
-pub mod ArchiveLaws
-pub mod BlockLaws
-pub mod CommandLaws
-pub mod LineLaws
-pub mod Moves
-pub mod OutputLaws
-pub mod PlayLaws
-pub mod ReadingLaws
-pub mod WholePlay
+mod ArchiveLaws
+mod BlockLaws
+mod CalmLaws
+mod CommandLaws
+mod InitLaws
+mod LineLaws
+mod OpeningLaws
+mod OutputLaws
+mod PlanLaws
+mod PlayLaws
+mod WholePlay

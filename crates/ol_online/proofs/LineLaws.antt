@@ -1,5 +1,5 @@
 -- The turns of lines: what stays as it is, and how an archive begins, ends and is given up.
-use Rattle.std.specs.Prelude.{List, None, Option, Some, [], length, map, replicate, suc, true, zero, ℕ, ◌++◌, ◌∷◌, ◌≡◌, refl}
+use Rattle.std.specs.Prelude.{List, None, Option, Some, [], false, is_some, length, map, replicate, suc, true, unwrap_or, zero, ℕ, ◌++◌, ◌∷◌, ◌≡◌, refl}
 use Rattle.std.proofs.Common.{ap, arith, inl, inr, subst, sym, ◌∙◌}
 use Rattle.std.proofs.lemmas.List.{map-append}
 use Rattle.ol_model.specs.declared.event.Event.{Event}
@@ -15,23 +15,21 @@ use Rattle.ol_model.specs.declared.history.Entry.{Entry}
 use Rattle.ol_model.specs.declared.line.Form.{Form}
 use Rattle.ol_model.specs.declared.line.Form.TheVariants.{Archive as ArchiveLine}
 use Rattle.ol_model.specs.declared.line.Line.{Line}
-use Rattle.ol_model.specs.declared.record.Record.{Record}
 use Rattle.ol_model.specs.declared.record.Rid.{Rid}
 use Rattle.ol_model.specs.declared.row.Row.{Row}
-use Rattle.ol_model.specs.Archivers.{cancel_turn, given_up, end_at, end_with, start_turn}
+use Rattle.ol_model.specs.Archivers.{cancel_turn, end_at, end_with, given_up, spaces_named, start_turn, start_with}
+use Rattle.ol_model.specs.Config.{Config}
 use Rattle.ol_model.specs.History.{Happening, well}
 use Rattle.ol_model.specs.Lines.{Ending, First, GivingUp, Outside, Stage, Taking, all_well, event_at, stage_after}
-use Rattle.ol_model.specs.Machine.{Archive, Machine, Work, archive_of, journal_in, left_of, seat_of}
+use Rattle.ol_model.specs.Machine.{Archive, Machine, Work, archive_of, formatted, journal_in, left_of, seat_of}
 use Rattle.ol_model.specs.Sessions.{begin_at, commit_at, insert_at, insert_by, insert_into}
 use Rattle.ol_model.specs.Turns.{given_by, turn}
 use Rattle.ol_core.specs.Core.{Seen, ShowsCount, Takes}
-use Rattle.ol_core.specs.Initial.{both_names, initial}
-use Rattle.ol_online.specs.Playing.{EndsPlay, EndsTape, EndsWell, GaveUp, Interrupts, IsBegun, IsOnTape, IsReached, IsRunning, IsTurned, IsWaiting, and_blocks, at_stage, IsReason, drive_in, faults_in, reply_of, whole_archive}
+use Rattle.ol_online.specs.Playing.{EndsPlay, IsArchiveLine, IsNamed, Job, job_of, names_in, EndsTape, EndsWell, GaveUp, Interrupts, IsBegun, IsOnTape, IsReached, IsRunning, IsTurned, IsWaiting, and_blocks, at_stage, IsReason, drive_in, faults_in, reply_of, whole_archive}
 use Rattle.ol_online.specs.declared.archive.PlayEnd.TheVariants.{NoMemory, Tape as TapeStop}
 use Rattle.ol_model.specs.Blocks.{Block}
 use Rattle.ol_outside.specs.Drive.{stream_of}
 use Rattle.ol_volume.specs.Written.{Written}
-use Rattle.ol_online.specs.Script.{IsArchiveLine}
 use Rattle.ol_online.proofs.ArchiveLaws.{every_block, machine_is, machine_of, passing, same_stream}
 use Rattle.ol_online.proofs.PlayLaws.{IsTurn, entries_well, entry_after, reached_on, run_stopped, turned_well, turn_led, turned_on}
 use Rattle.ol_volume.specs.declared.writer.TapeEnd.{TapeEnd}
@@ -67,44 +65,51 @@ insert_keeps : (m : Machine) (k : ℕ) (txn : Option ℕ) (reg : ℕ) (name : Li
 insert_keeps m k None reg name row = same m
 insert_keeps m k (Some n) reg name row = insert_into_keeps m k n reg row _
 
-waiting_after : {s t : Seen} → IsWaiting s → Keeps s.machine t.machine → IsWaiting t
+waiting_after : {c : Config} {s t : Seen} → IsWaiting c s → Keeps s.machine t.machine → IsWaiting c t
 waiting_after w k = record { idle = k.archives ∙ w.idle; next = k.next ∙ w.next; fixed = k.fixed ∙ w.fixed }
 
 moved : {s t : Seen} {by : By} {event : Event} {reply : Reply} → Takes s by event reply t → t.machine ≡ (turn (given_by reply) s.machine by.actor event).1
 moved takes = ap (λ (r : Reply × Machine). r.1) takes.step
 
-by_turn : {s t : Seen} {by : By} {event : Event} {reply : Reply} → IsWaiting s → Takes s by event reply t → Keeps s.machine (turn (given_by reply) s.machine by.actor event).1 → IsWaiting t
+by_turn : {c : Config} {s t : Seen} {by : By} {event : Event} {reply : Reply} → IsWaiting c s → Takes s by event reply t → Keeps s.machine (turn (given_by reply) s.machine by.actor event).1 → IsWaiting c t
 by_turn {s = s} w takes k = waiting_after w (subst (Keeps s.machine) (sym (moved takes)) k)
 
-pub waiting_begin : {s t : Seen} {by : By} {reply : Reply} → IsWaiting s → Takes s by BeginTurn reply t → by.actor ≡ Session 1 → IsWaiting t
+pub waiting_begin : {c : Config} {s t : Seen} {by : By} {reply : Reply} → IsWaiting c s → Takes s by BeginTurn reply t → by.actor ≡ Session 1 → IsWaiting c t
 waiting_begin {s = s} {by = by} {reply = reply} w takes who =
     by_turn w takes (subst (λ (a : Actor). Keeps s.machine (turn (given_by reply) s.machine a BeginTurn).1) (sym who) (begin_keeps s.machine 1 (seat_of s.machine 1).txn))
 
-pub waiting_commit : {s t : Seen} {by : By} {reply : Reply} → IsWaiting s → Takes s by CommitTurn reply t → by.actor ≡ Session 1 → IsWaiting t
+pub waiting_commit : {c : Config} {s t : Seen} {by : By} {reply : Reply} → IsWaiting c s → Takes s by CommitTurn reply t → by.actor ≡ Session 1 → IsWaiting c t
 waiting_commit {s = s} {by = by} {reply = reply} w takes who =
     by_turn w takes (subst (λ (a : Actor). Keeps s.machine (turn (given_by reply) s.machine a CommitTurn).1) (sym who) (commit_keeps s.machine 1 (seat_of s.machine 1).txn))
 
-pub waiting_insert : {s t : Seen} {by : By} {reply : Reply} (reg : ℕ) (name : List ℕ) (row : Row) → IsWaiting s → Takes s by (InsertTurn reg name row) reply t → by.actor ≡ Session 1 → IsWaiting t
+pub waiting_insert : {c : Config} {s t : Seen} {by : By} {reply : Reply} (reg : ℕ) (name : List ℕ) (row : Row) → IsWaiting c s → Takes s by (InsertTurn reg name row) reply t → by.actor ≡ Session 1 → IsWaiting c t
 waiting_insert {s = s} {by = by} {reply = reply} reg name row w takes who =
     by_turn w takes (subst (λ (a : Actor). Keeps s.machine (turn (given_by reply) s.machine a (InsertTurn reg name row)).1) (sym who) (insert_keeps s.machine 1 (seat_of s.machine 1).txn reg name row))
 
 -- ---- an archive begins
 
-whole_machine : (m : Machine) (next : ℕ) (archives : List (Option Archive)) → m.fixed ≡ initial.fixed → m.next_archive ≡ next → m.archives ≡ archives → m ≡ machine_of m.work next archives
-whole_machine m next archives p q r = machine_is m archives p r ∙ ap (λ (n : ℕ). machine_of m.work n archives) q
+whole_machine : (c : Config) (m : Machine) (next : ℕ) (archives : List (Option Archive)) → m.fixed ≡ (formatted c).fixed → m.next_archive ≡ next → m.archives ≡ archives → m ≡ machine_of (formatted c).fixed m.work next archives
+whole_machine c m next archives p q r = machine_is m (formatted c).fixed archives p r ∙ ap (λ (n : ℕ). machine_of (formatted c).fixed m.work n archives) q
 
-pub begun : {lines : List Line} {line : Line} {s t : Seen} {by : By} {reply : Reply} → IsArchiveLine line → by.actor ≡ line.actor → by.line ≡ line.number → IsReached lines s (line ∷ []) First → IsWaiting s → Takes s by (ArchiveStart 0 both_names) reply t
-    → IsBegun lines line (journal_in s.machine) t
-begun {lines = lines} {line = line} {s = s} {t = t} {by = by} {reply = reply} is actor at reached w takes =
-    let turned : IsTurn line First s by (ArchiveStart 0 both_names) reply t = record { takes = takes; actor = actor; line_is = at; does = sym (ap (λ (f : Form). event_at f First) is.1) } in
-    let m = machine_of s.machine.work 1 (replicate 4 None) in
-    let step : ◌≡◌ {A = Reply × Machine} (reply, t.machine) (start_turn m 1 0 both_names) =
-    takes.step ∙ ap (λ (a : Actor). turn (given_by reply) s.machine a (ArchiveStart 0 both_names)) (actor ∙ is.0)
-    ∙ ap (λ (x : Machine). start_turn x 1 0 both_names) (whole_machine s.machine 1 (replicate 4 None) w.fixed w.next w.idle) in
-    let after : t.machine ≡ (start_turn m 1 0 both_names).1 = ap (λ (r : Reply × Machine). r.1) step in
-    let answer : reply ≡ (start_turn m 1 0 both_names).0 = ap (λ (r : Reply × Machine). r.0) step in
+some_named : (found : Option (List ℕ)) → is_some found ≡ true → found ≡ Some (unwrap_or found [])
+some_named None h = absurd (let e : false ≡ true = h in cc)
+some_named (Some spaces) h = refl
+
+pub begun : {c : Config} {lines : List Line} {line : Line} {s t : Seen} {by : By} {reply : Reply} → IsArchiveLine line → IsNamed c line → by.actor ≡ line.actor → by.line ≡ line.number → IsReached c lines s (line ∷ []) First → IsWaiting c s → Takes s by (ArchiveStart 0 (names_in line.form)) reply t
+    → IsBegun lines line (job_of c line (journal_in s.machine)) t
+begun {c = c} {lines = lines} {line = line} {s = s} {t = t} {by = by} {reply = reply} is named actor at reached w takes =
+    let names = names_in line.form in
+    let spaces = unwrap_or (spaces_named c names) [] in
+    let turned : IsTurn line First s by (ArchiveStart 0 names) reply t = record { takes = takes; actor = actor; line_is = at; does = sym (ap (λ (f : Form). event_at f First) is.1) } in
+    let m = machine_of (formatted c).fixed s.machine.work 1 (replicate 4 None) in
+    let step : ◌≡◌ {A = Reply × Machine} (reply, t.machine) (start_with m 1 0 (Some spaces)) =
+    takes.step ∙ ap (λ (a : Actor). turn (given_by reply) s.machine a (ArchiveStart 0 names)) (actor ∙ is.0)
+    ∙ ap (λ (x : Machine). start_turn x 1 0 names) (whole_machine c s.machine 1 (replicate 4 None) w.fixed w.next w.idle)
+    ∙ ap (start_with m 1 0) (some_named (spaces_named c names) named) in
+    let after : t.machine ≡ (start_with m 1 0 (Some spaces)).1 = ap (λ (r : Reply × Machine). r.1) step in
+    let answer : reply ≡ (start_with m 1 0 (Some spaces)).0 = ap (λ (r : Reply × Machine). r.0) step in
     record {
-      turned = turned_on [] Taking turned (λ o. ap (λ (f : Form). stage_after f First reply o) is.1 ∙ ap (λ (r : Reply). stage_after (ArchiveLine 0 both_names) First r o) answer) reached;
+      turned = turned_on [] Taking turned (λ o. ap (λ (f : Form). stage_after f First reply o) is.1 ∙ ap (λ (r : Reply). stage_after (ArchiveLine 0 names) First r o) answer) reached;
       running = record {
         archives = ap (λ (x : Machine). x.archives) after;
         journal_is = ap (λ (x : Machine). x.work.journal) after;
@@ -128,7 +133,7 @@ ended {s = s} {by = by} {reply = reply} takes who =
     ap (λ (x : Machine). x.work.journal) (moved takes ∙ ap (λ (a : Actor). (turn (given_by reply) s.machine a ArchiveEnd).1) who)
     ∙ ap (λ (x : Work). x.journal) (end_keeps s.machine 1 (archive_of s.machine 1))
 
-pub reached_end : {lines : List Line} {line : Line} {s t : Seen} {by : By} {reply : Reply} → IsArchiveLine line → by.actor ≡ line.actor → by.line ≡ line.number → IsReached lines s (line ∷ []) Ending → Takes s by ArchiveEnd reply t → IsReached lines t [] First
+pub reached_end : {c : Config} {lines : List Line} {line : Line} {s t : Seen} {by : By} {reply : Reply} → IsArchiveLine line → by.actor ≡ line.actor → by.line ≡ line.number → IsReached c lines s (line ∷ []) Ending → Takes s by ArchiveEnd reply t → IsReached c lines t [] First
 reached_end {line = line} {s = s} {t = t} {by = by} {reply = reply} is actor at reached takes =
     let turned : IsTurn line Ending s by ArchiveEnd reply t = record { takes = takes; actor = actor; line_is = at; does = sym (ap (λ (f : Form). event_at f Ending) is.1) } in
     reached_on [] None turned (ap (λ (f : Form). stage_after f Ending reply all_well) is.1) reached
@@ -144,19 +149,19 @@ told_end (Fault since) (OutOfTape drive) number reply is one said shows = absurd
 told_end Full (TapeFault drive count) number reply is one said shows = absurd is
 told_end Asked end number reply is one said shows = absurd is
 
-pub gave_up : {lines : List Line} {line : Line} {journal : List Record} {s t : Seen} {by : By} {reply : Reply} (k : ℕ) (next : Stage) (why : Why) (end : TapeEnd) → IsArchiveLine line → by.actor ≡ line.actor → by.line ≡ line.number
-    → IsTurned lines s (line ∷ []) next → IsRunning s journal k → Takes s by (ArchiveCancel why) reply t → IsReason why end → drive_in end ≡ 1 → ShowsCount (faults_in end) reply → GaveUp lines journal t end
-gave_up {lines = lines} {line = line} {journal = journal} {s = s} {t = t} {by = by} {reply = reply} k next why end is actor at open_turn r takes reason one shows =
+pub gave_up : {lines : List Line} {line : Line} {job : Job} {s t : Seen} {by : By} {reply : Reply} (k : ℕ) (next : Stage) (why : Why) (end : TapeEnd) → IsArchiveLine line → by.actor ≡ line.actor → by.line ≡ line.number
+    → IsTurned job.config lines s (line ∷ []) next → IsRunning s job k → Takes s by (ArchiveCancel why) reply t → IsReason why end → drive_in end ≡ 1 → ShowsCount (faults_in end) reply → GaveUp lines job t end
+gave_up {lines = lines} {line = line} {job = job} {s = s} {t = t} {by = by} {reply = reply} k next why end is actor at open_turn r takes reason one shows =
     let turned : IsTurn line (GivingUp why) s by (ArchiveCancel why) reply t = record { takes = takes; actor = actor; line_is = at; does = sym (ap (λ (f : Form). event_at f (GivingUp why)) is.1) } in
     let o : Outside = record { after = Some why } in
     let last : Happening = record { entry = open_turn.last; outside = o } in
     let hs = map well open_turn.before ++ last ∷ [] in
     let cancel = entry_after s by (ArchiveCancel why) reply in
-    let archives = Some (passing journal k) ∷ replicate 3 None in
-    let m = machine_of s.machine.work s.machine.next_archive archives in
+    let archives = Some (passing job k) ∷ replicate 3 None in
+    let m = machine_of (formatted job.config).fixed s.machine.work s.machine.next_archive archives in
     let step : ◌≡◌ {A = Reply × Machine} (reply, t.machine) (cancel_turn (given_by reply).count m 1 why) =
     takes.step ∙ ap (λ (a : Actor). turn (given_by reply) s.machine a (ArchiveCancel why)) (actor ∙ is.0)
-    ∙ ap (λ (x : Machine). cancel_turn (given_by reply).count x 1 why) (machine_is s.machine archives r.fixed r.archives) in
+    ∙ ap (λ (x : Machine). cancel_turn (given_by reply).count x 1 why) (machine_is s.machine (formatted job.config).fixed archives r.fixed r.archives) in
     record {
       run = record {
         happenings = hs ++ well cancel ∷ [];
@@ -164,7 +169,7 @@ gave_up {lines = lines} {line = line} {journal = journal} {s = s} {t = t} {by = 
             map-append (λ (x : Happening). x.entry) hs (well cancel ∷ []) ∙ ap (λ (l : List Entry). l ++ cancel ∷ []) (map-append (λ (x : Happening). x.entry) (map well open_turn.before) (last ∷ [])
             ∙ ap (λ (l : List Entry). l ++ open_turn.last ∷ []) (entries_well open_turn.before) ∙ sym open_turn.history) ∙ sym takes.told;
         end = at_stage t [] First;
-        leads = turn_led lines [] hs all_well None turned (ap (λ (f : Form). stage_after f (GivingUp why) reply all_well) is.1) (open_turn.leads o);
+        leads = turn_led job.config lines [] hs all_well None turned (ap (λ (f : Form). stage_after f (GivingUp why) reply all_well) is.1) (open_turn.leads o);
         machine = refl;
         done = inl refl;
       };
@@ -174,37 +179,37 @@ gave_up {lines = lines} {line = line} {journal = journal} {s = s} {t = t} {by = 
 
 -- ---- how a play ends early
 
-pub starved_first : {lines : List Line} {line : Line} {s : Seen} (w : Written) → IsReached lines s (line ∷ []) First → EndsPlay lines (journal_in s.machine) w s w NoMemory
+pub starved_first : {c : Config} {lines : List Line} {line : Line} {s : Seen} (w : Written) → IsReached c lines s (line ∷ []) First → EndsPlay lines (job_of c line (journal_in s.machine)) w s w NoMemory
 starved_first {s = s} w r = (run_stopped true r (inr refl), refl, (0, same_stream (stream_of w.tape)))
 
-pub starved_end : {lines : List Line} {line : Line} {journal : List Record} {w v : Written} {s : Seen} → IsOnTape lines line journal w s v → EndsPlay lines journal w s v NoMemory
-starved_end {journal = journal} {w = w} o =
-    let all = length (whole_archive journal) in
-    (run_stopped true o.reached (inr refl), o.journal_is, (all, o.wrote.stream ∙ ap (and_blocks (stream_of w.tape)) (sym (every_block journal))))
+pub starved_end : {lines : List Line} {line : Line} {job : Job} {w v : Written} {s : Seen} → IsOnTape lines line job w s v → EndsPlay lines job w s v NoMemory
+starved_end {job = job} {w = w} o =
+    let all = length (whole_archive job) in
+    (run_stopped true o.reached (inr refl), o.journal_is, (all, o.wrote.stream ∙ ap (and_blocks (stream_of w.tape)) (sym (every_block job))))
 
-pub starved_copy : (lines : List Line) (line : Line) (journal : List Record) (w v : Written) (s : Seen) → Interrupts lines line journal w s v NoMemory → EndsPlay lines journal w s v NoMemory
-starved_copy lines line journal w v s i = (i.0, i.1, i.2)
+pub starved_copy : (lines : List Line) (line : Line) (job : Job) (w v : Written) (s : Seen) → Interrupts lines line job w s v NoMemory → EndsPlay lines job w s v NoMemory
+starved_copy lines line job w v s i = (i.0, i.1, i.2)
 
-pub starved_giving_up : (lines : List Line) (line : Line) (journal : List Record) (w v : Written) (s : Seen) (end : TapeEnd) → Interrupts lines line journal w s v (TapeStop end) → EndsPlay lines journal w s v NoMemory
-starved_giving_up lines line journal w v s end i = (run_stopped true (turned_well i.0.1) (inr refl), i.1.1.journal_is, i.2)
+pub starved_giving_up : (lines : List Line) (line : Line) (job : Job) (w v : Written) (s : Seen) (end : TapeEnd) → Interrupts lines line job w s v (TapeStop end) → EndsPlay lines job w s v NoMemory
+starved_giving_up lines line job w v s end i = (run_stopped true (turned_well i.0.1) (inr refl), i.1.1.journal_is, i.2)
 
-pub ended_by_tape : (lines : List Line) (line : Line) (journal : List Record) (w v : Written) (s t : Seen) (end : TapeEnd) → Interrupts lines line journal w s v (TapeStop end) → GaveUp lines journal t end → EndsPlay lines journal w t v (TapeStop end)
-ended_by_tape lines line journal w v s t end i g = (g.run, g.journal_is, i.2, i.3, g.tells)
+pub ended_by_tape : (lines : List Line) (line : Line) (job : Job) (w v : Written) (s t : Seen) (end : TapeEnd) → Interrupts lines line job w s v (TapeStop end) → GaveUp lines job t end → EndsPlay lines job w t v (TapeStop end)
+ended_by_tape lines line job w v s t end i g = (g.run, g.journal_is, i.2, i.3, g.tells)
 
 drive_of_end : (w v : Written) (blocks : List Block) (end : TapeEnd) → EndsTape w blocks v end → drive_in end ≡ w.number
 drive_of_end w v blocks (TapeFault drive count) e = e.0
 drive_of_end w v blocks (OutOfTape drive) e = e.0
 
-pub drive_is : (lines : List Line) (line : Line) (journal : List Record) (w v : Written) (s : Seen) (end : TapeEnd) → w.number ≡ 1 → Interrupts lines line journal w s v (TapeStop end) → drive_in end ≡ 1
-drive_is lines line journal w v s end one i = drive_of_end w v (whole_archive journal) end i.3 ∙ one
+pub drive_is : (lines : List Line) (line : Line) (job : Job) (w v : Written) (s : Seen) (end : TapeEnd) → w.number ≡ 1 → Interrupts lines line job w s v (TapeStop end) → drive_in end ≡ 1
+drive_is lines line job w v s end one i = drive_of_end w v (whole_archive job) end i.3 ∙ one
 
-pub ends_well : {lines : List Line} {line : Line} {journal : List Record} {w v : Written} {s t : Seen} → IsOnTape lines line journal w s v → journal_in t.machine ≡ journal_in s.machine → IsReached lines t [] First → EndsWell lines journal w t v
+pub ends_well : {lines : List Line} {line : Line} {job : Job} {w v : Written} {s t : Seen} → IsOnTape lines line job w s v → journal_in t.machine ≡ journal_in s.machine → IsReached job.config lines t [] First → EndsWell lines job w t v
 ends_well o j r = record { reached = r; journal_is = j ∙ o.journal_is; wrote = o.wrote; synced = o.synced }
 
 -- ---- a line of the session is one turn
 
-pub session_turn : {lines left : List Line} {s t : Seen} {by : By} {reply : Reply} (line : Line) (form : Form) → line.form ≡ form → by.actor ≡ line.actor → by.line ≡ line.number → stage_after form First reply all_well ≡ None
-    → IsReached lines s (line ∷ left) First → Takes s by (event_at form First) reply t → IsReached lines t left First
-session_turn {left = left} {s = s} {t = t} {by = by} {reply = reply} line form is actor at ends reached takes =
-    let turned : IsTurn line First s by (event_at form First) reply t = record { takes = takes; actor = actor; line_is = at; does = sym (ap (λ (f : Form). event_at f First) is) } in
+pub session_turn : {c : Config} {lines left : List Line} {s t : Seen} {by : By} {event : Event} {reply : Reply} (line : Line) (form : Form) → line.form ≡ form → by.actor ≡ line.actor → by.line ≡ line.number → event_at form First ≡ Some event → stage_after form First reply all_well ≡ None
+    → IsReached c lines s (line ∷ left) First → Takes s by event reply t → IsReached c lines t left First
+session_turn {left = left} {s = s} {t = t} {by = by} {event = event} {reply = reply} line form is actor at does ends reached takes =
+    let turned : IsTurn line First s by event reply t = record { takes = takes; actor = actor; line_is = at; does = sym (ap (λ (f : Form). event_at f First) is ∙ does) } in
     reached_on left None turned (ap (λ (f : Form). stage_after f First reply all_well) is ∙ ends) reached

@@ -1,16 +1,15 @@
--- The parts of the blocks of an archive of both spaces.
-use Rattle.std.specs.Prelude.{List, ℕ}
+-- The parts of the blocks of an archive.
+use Rattle.std.specs.Prelude.{List, length, ℕ, ◌≡◌}
 use Rattle.ol_model.specs.declared.record.Record.{Record}
 use Rattle.ol_model.specs.Blocks.{ArchiveHead}
-use Rattle.ol_model.specs.Config.{config_text}
 use Rattle.ol_model.specs.Journal.{page_at}
 use Rattle.ol_model.specs.Saveset.{SavedPage}
-use Rattle.ol_core.specs.Initial.{both_spaces, initial_config}
+use Rattle.ol_object.specs.Bytes.{archive_head_bytes, padded_to}
 
--- the head of such an archive
-abbrev pub both_head : ArchiveHead
-both_head = record { spaces = both_spaces; text = config_text initial_config }
+-- a page after the journal
+abbrev pub page_saved : List Record → ℕ → ℕ → SavedPage
+page_saved journal space page = record { space = space; page = page; image = page_at journal space page }
 
--- a page of data1 after the journal
-abbrev pub page_saved : List Record → ℕ → SavedPage
-page_saved journal page = record { space = 1; page = page; image = page_at journal 1 page }
+-- so many bytes of a payload are used, by this archive head, and zeros stand behind it
+abbrev pub IsHead : ArchiveHead → ℕ → List ℕ → Type 0
+IsHead head used payload = (used ≡ length (archive_head_bytes head)) × (payload ≡ padded_to 2048 (archive_head_bytes head))

@@ -1,7 +1,8 @@
 pub mod Blocks
 pub mod Command
+pub mod Initing
+pub mod Opening
+pub mod Planning
 pub mod Playing
-pub mod Reading
-pub mod Script
 pub mod Status
 pub mod Words

@@ -4,25 +4,28 @@ ghost use Rattle.std.specs.Prelude.{◌≡◌, ◌∷◌, ℕ, OnErr, OnOk, not,
 ghost use Rattle.std.specs.Io.KnownBytes.{Appends};
 ghost use Rattle.ol_outside.specs.Causes.{HasCause};
 ghost use Rattle.ol_model.specs.Text.{IsInLineOrder, is_followed, text};
-ghost use Rattle.ol_core.specs.Initial.{initial_config};
 
-use crate::bytes::write_all;
-use crate::entry_line::{ENTRY_LIMIT, write_entry};
+use ol_chunks::ChunkTable;
 use ol_model::Entry;
-use ol_outside::{Failed, Sink};
+use ol_outside::{Failed, Sink, write_all};
+use ol_script::{ENTRY_LIMIT, text as put_text};
 
-/// Writes the text of a history: a line for the last entry of each script line. Where a write fails, the
-/// sink took some first part of it.
-pub fn write_history<K: Sink>(sink: &mut K, history: &[Entry]) -> Result<(), Failed>
+/// Writes the text of a history, with the names of the table's spaces: a line for the last entry of each script
+/// line. Where a write fails, the sink took some first part of it.
+pub fn write_history<K: Sink>(
+    sink: &mut K,
+    table: &ChunkTable,
+    history: &[Entry],
+) -> Result<(), Failed>
     requires { IsInLineOrder history.now }
-    ensures ok { OnOk result (Appends (K.contents sink.old) (K.contents sink.new) (text initial_config history.now)) }
-    ensures err { OnErr result ((n : ℕ) × Appends (K.contents sink.old) (K.contents sink.new) (take n (text initial_config history.now))) }
+    ensures ok { OnOk result (Appends (K.contents sink.old) (K.contents sink.new) (text table.now history.now)) }
+    ensures err { OnErr result ((n : ℕ) × Appends (K.contents sink.old) (K.contents sink.new) (take n (text table.now history.now))) }
     ensures cause { HasCause (K.fault_count sink.old) (K.fault_count sink.new) result }
 {
     let mut line = [0; ENTRY_LIMIT];
     for (i, entry) in history.iter().enumerate() {
         if ends_line(entry, &history[i + 1..]) {
-            let length = write_entry(entry, &mut line);
+            let length = put_text(entry, table, &mut line);
             write_all(sink, &line[..length])?;
         }
     }

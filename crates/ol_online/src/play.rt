@@ -1,15 +1,16 @@
-//! A play: the lines of a script in file order, on one thread.
+//! A play: lines in file order, on one thread.
 
-ghost use Rattle.std.specs.Prelude.{◌≡◌, ◌++◌, ◌∷◌, List, All, IfErr, IfSome, OnErr, OnOk, drop, option_to_list, true};
+ghost use Rattle.std.specs.Prelude.{◌≡◌, ◌++◌, ◌∷◌, List, All, IfErr, IfSome, None, OnErr, OnOk, Option, Some, drop, option_to_list, true};
 ghost use Rattle.ol_model.specs.declared.line.Line.{Line};
+ghost use Rattle.ol_model.specs.Config.{Config};
 ghost use Rattle.ol_model.specs.History.{Ascends};
 ghost use Rattle.ol_model.specs.Lines.{First};
 ghost use Rattle.ol_model.specs.Text.{IsInLineOrder};
-ghost use Rattle.ol_online.specs.Playing.{IsReached, IsRun, IsWaiting, PlaysShort, PlaysWell};
-ghost use Rattle.ol_online.specs.Script.{IsArchiveLine, IsSessionLine, lines_in};
+ghost use Rattle.ol_core.specs.Core.{IsIdle};
+ghost use Rattle.ol_online.specs.Playing.{IsArchiveLine, IsNamed, IsReached, IsRun, IsSessionLine, IsWaiting, PlaysShort, PlaysWell, all_lines, line_in};
 
 use crate::archive::{PlayEnd, archive, by_of};
-use crate::script::Script;
+use ol_chunks::ChunkTable;
 use ol_core::Core;
 use ol_model::{Form, History, Line, NoMemory};
 use ol_outside::Drive;
@@ -19,9 +20,10 @@ use std::alloc::Global;
 /// Carries out a line of the session, in one turn.
 fn play_line(core: &mut Core, line: &Line) -> Result<(), NoMemory>
     requires line { IsSessionLine line.now }
-    requires waiting { IsWaiting core.old }
-    ensures ok { (lines left : List Line) → IsReached lines core.old (line.now ∷ left) First → OnOk result (IsReached lines core.new left First) }
-    ensures waiting { OnOk result (IsWaiting core.new) }
+    requires waiting { IsIdle core.old }
+    ensures ok { (c : Config) (lines left : List Line) → IsReached c lines core.old (line.now ∷ left) First → OnOk result (IsReached c lines core.new left First) }
+    ensures idle { OnOk result (IsIdle core.new) }
+    ensures waiting { (c : Config) → IsWaiting c core.old → OnOk result (IsWaiting c core.new) }
     ensures err { OnErr result (core.new ≡ core.old) }
 {
     let by = by_of(line);
@@ -38,20 +40,17 @@ fn play_line(core: &mut Core, line: &Line) -> Result<(), NoMemory>
             Ok(_) => Ok(()),
             Err(refused) => Err(refused),
         },
-        Form::Archive {
-            level: _,
-            spaces: _,
-        } => unreachable!(),
+        _ => unreachable!(),
     }
 }
 
 /// Carries out the lines of the session.
 fn play_session(core: &mut Core, lines: &[Line]) -> Result<(), NoMemory>
     requires lines { All IsSessionLine lines.now }
-    requires waiting { IsWaiting core.old }
-    ensures ok { (all rest : List Line) → IsReached all core.old (lines.now ++ rest) First → OnOk result (IsReached all core.new rest First) }
-    ensures waiting { OnOk result (IsWaiting core.new) }
-    ensures err { (all rest : List Line) → IsReached all core.old (lines.now ++ rest) First → OnErr result (IsRun all true core.new) }
+    requires waiting { IsIdle core.old }
+    ensures ok { (c : Config) (all rest : List Line) → IsReached c all core.old (lines.now ++ rest) First → OnOk result (IsReached c all core.new rest First) }
+    ensures waiting { (c : Config) → IsWaiting c core.old → OnOk result (IsWaiting c core.new) }
+    ensures err { (c : Config) (all rest : List Line) → IsReached c all core.old (lines.now ++ rest) First → OnErr result (IsRun c all true core.new) }
 {
     for line in lines {
         match play_line(core, line) {
@@ -62,18 +61,18 @@ fn play_session(core: &mut Core, lines: &[Line]) -> Result<(), NoMemory>
     Ok(())
 }
 
-/// Carries out the archive line of a script, where it has one.
+/// Carries out the archive line, where there is one.
 fn play_archive<T: Drive>(
     alloc: Global,
     core: &mut Core,
-    line: &Option<Line>,
+    line: Option<&Line>,
     writer: &mut Writer<T>,
 ) -> Result<(), PlayEnd>
-    requires line { IfSome line.now IsArchiveLine }
+    requires line { IfSome (line_in line) IsArchiveLine }
     requires drive { writer.old.number ≡ 1 }
-    ensures well { (all : List Line) → IsReached all core.old (option_to_list line.now) First → IsWaiting core.old → OnOk result (PlaysWell all line.now writer.old core.new.history writer.new) }
-    ensures short { (all : List Line) → IsReached all core.old (option_to_list line.now) First → IsWaiting core.old → IfErr result (PlaysShort all line.now writer.old core.new.history writer.new) }
-    ensures order { (all : List Line) → Ascends all → IsReached all core.old (option_to_list line.now) First → IsWaiting core.old → IsInLineOrder core.new.history }
+    ensures well { (c : Config) (all : List Line) → IfSome (line_in line.entry) (IsNamed c) → IsReached c all core.old (option_to_list (line_in line.entry)) First → IsWaiting c core.old → OnOk result (PlaysWell c all (line_in line.entry) writer.old core.new.history writer.new) }
+    ensures short { (c : Config) (all : List Line) → IfSome (line_in line.entry) (IsNamed c) → IsReached c all core.old (option_to_list (line_in line.entry)) First → IsWaiting c core.old → IfErr result (PlaysShort c all (line_in line.entry) writer.old core.new.history writer.new) }
+    ensures order { (c : Config) (all : List Line) → Ascends all → IfSome (line_in line.entry) (IsNamed c) → IsReached c all core.old (option_to_list (line_in line.entry)) First → IsWaiting c core.old → IsInLineOrder core.new.history }
 {
     match line {
         Some(line) => archive(alloc, core, line, writer),
@@ -81,48 +80,52 @@ fn play_archive<T: Drive>(
     }
 }
 
-/// Carries out the lines of a script in file order.
+/// Carries out the lines of the session, and then the archive line.
 fn play_lines<T: Drive>(
     alloc: Global,
     core: &mut Core,
-    script: &Script,
+    lines: &[Line],
+    archive: Option<&Line>,
     writer: &mut Writer<T>,
 ) -> Result<(), PlayEnd>
-    requires sessions { All IsSessionLine script.now.lines }
-    requires archive { IfSome script.now.archive IsArchiveLine }
-    requires rising { Ascends (lines_in script.now) }
+    requires sessions { All IsSessionLine lines.now }
+    requires archive { IfSome (line_in archive) IsArchiveLine }
+    requires rising { Ascends (all_lines lines.now archive) }
     requires drive { writer.old.number ≡ 1 }
-    requires reached { IsReached (lines_in script.now) core.old (lines_in script.now) First }
-    requires waiting { IsWaiting core.old }
-    ensures well { OnOk result (PlaysWell (lines_in script.now) script.now.archive writer.old core.new.history writer.new) }
-    ensures short { IfErr result (PlaysShort (lines_in script.now) script.now.archive writer.old core.new.history writer.new) }
-    ensures order { IsInLineOrder core.new.history }
+    requires idle { IsIdle core.old }
+    ensures well { (c : Config) → IfSome (line_in archive.entry) (IsNamed c) → IsReached c (all_lines lines.now archive.entry) core.old (all_lines lines.now archive.entry) First → IsWaiting c core.old → OnOk result (PlaysWell c (all_lines lines.now archive.entry) (line_in archive.entry) writer.old core.new.history writer.new) }
+    ensures short { (c : Config) → IfSome (line_in archive.entry) (IsNamed c) → IsReached c (all_lines lines.now archive.entry) core.old (all_lines lines.now archive.entry) First → IsWaiting c core.old → IfErr result (PlaysShort c (all_lines lines.now archive.entry) (line_in archive.entry) writer.old core.new.history writer.new) }
+    ensures order { (c : Config) → IfSome (line_in archive.entry) (IsNamed c) → IsReached c (all_lines lines.now archive.entry) core.old (all_lines lines.now archive.entry) First → IsWaiting c core.old → IsInLineOrder core.new.history }
 {
-    match play_session(core, script.lines.as_slice()) {
-        Ok(()) => play_archive(alloc, core, &script.archive, writer),
+    match play_session(core, lines) {
+        Ok(()) => play_archive(alloc, core, archive, writer),
         Err(_) => Err(PlayEnd::NoMemory),
     }
 }
 
-/// Plays a script from the initial installation on, with the blocks of its archive on the writer's drive, and hands
-/// the history back. `NoMemory` comes where memory was refused, `Tape` where the drive's faults rose or its volumes
-/// are full; the history is then that of a first part of the work.
+/// Plays lines from a newly formatted installation of this configuration on: those of the session in order,
+/// and then the archive line, whose blocks go on the writer's drive. It hands the history back. `NoMemory`
+/// comes where memory was refused, `Tape` where the drive's faults rose or its volumes are full; the history
+/// is then that of a first part of the work.
 pub(crate) fn play<T: Drive>(
     alloc: Global,
-    script: &Script,
+    table: ChunkTable,
+    lines: &[Line],
+    archive: Option<&Line>,
     writer: &mut Writer<T>,
 ) -> (History, Result<(), PlayEnd>)
-    requires sessions { All IsSessionLine script.now.lines }
-    requires archive { IfSome script.now.archive IsArchiveLine }
-    requires rising { Ascends (lines_in script.now) }
+    requires sessions { All IsSessionLine lines.now }
+    requires archive { IfSome (line_in archive) IsArchiveLine }
+    requires named { IfSome (line_in archive) (IsNamed table) }
+    requires rising { Ascends (all_lines lines.now archive) }
     requires drive { writer.old.number ≡ 1 }
-    ensures well { OnOk result.1 (PlaysWell (lines_in script.now) script.now.archive writer.old result.0 writer.new) }
-    ensures short { IfErr result.1 (PlaysShort (lines_in script.now) script.now.archive writer.old result.0 writer.new) }
+    ensures well { OnOk result.1 (PlaysWell table (all_lines lines.now archive.entry) (line_in archive.entry) writer.old result.0 writer.new) }
+    ensures short { IfErr result.1 (PlaysShort table (all_lines lines.now archive.entry) (line_in archive.entry) writer.old result.0 writer.new) }
     ensures order { IsInLineOrder result.0 }
 {
-    match Core::new(alloc) {
+    match Core::new(alloc, table) {
         Ok(mut core) => {
-            let end = play_lines(alloc, &mut core, script, writer);
+            let end = play_lines(alloc, &mut core, lines, archive, writer);
             (core.into_history(), end)
         }
         Err(_) => (History::new(alloc), Err(PlayEnd::NoMemory)),

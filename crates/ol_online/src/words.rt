@@ -1,11 +1,20 @@
 //! The words of the command line.
 
 ghost use Rattle.std.specs.Prelude.{◌≡◌, ◌++◌, ◌∷◌, [], OnOk, OnErr};
-ghost use Rattle.ol_online.specs.Words.{is_play};
+ghost use Rattle.ol_online.specs.Words.{verb_in};
 
 use ol_model::NoMemory;
 use std::alloc::Global;
 use std::marker::Model;
+
+/// What the words of a command line ask for.
+#[derive(Clone, Copy, Debug, PartialEq, Eq)]
+pub enum Verb {
+    /// `init`: a configuration is read, and the disk is formatted.
+    Init,
+    /// `play`: the lines of a script are carried out in file order.
+    Play,
+}
 
 /// The words of a command line in order, which contracts see as a list of lists of bytes.
 #[derive(Debug, Drop)]
@@ -23,6 +32,8 @@ impl Model for Words {
 }
 
 impl Words {
+    ghost use Rattle.ol_online.specs.Words.{verb_told};
+
     /// No word yet. It takes no memory.
     pub fn new(alloc: Global) -> Words
         ensures { result ≡ [] }
@@ -43,13 +54,26 @@ impl Words {
         Ok(())
     }
 
-    /// Whether these are the words of a play: `play` alone.
-    pub(crate) fn is_play(&self) -> bool
-        ensures { result ≡ is_play self.now }
+    /// The command that the words give; None where they give none.
+    pub(crate) fn verb(&self) -> Option<Verb>
+        ensures { result ≡ verb_told self.now }
     {
         match self.words.as_slice() {
-            [word] => word.as_slice() == b"play".as_slice(),
-            _ => false,
+            [word] => verb_of(word),
+            _ => None,
         }
+    }
+}
+
+/// The command of one word.
+fn verb_of(word: &[u8]) -> Option<Verb>
+    ensures { result ≡ verb_in word.now }
+{
+    if word == b"init".as_slice() {
+        Some(Verb::Init)
+    } else if word == b"play".as_slice() {
+        Some(Verb::Play)
+    } else {
+        None
     }
 }

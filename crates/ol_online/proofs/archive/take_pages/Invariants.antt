@@ -1,13 +1,12 @@
 use Rattle.std.proofs.Common.{List, ℕ}
 use Rattle.ol_model.specs.declared.line.Line.{Line}
-use Rattle.ol_model.specs.declared.record.Record.{Record}
 use Rattle.ol_volume.specs.Written.{Written}
-use Rattle.ol_online.specs.Playing.{IsCopying, pages_left}
+use Rattle.ol_online.specs.Playing.{IsCopying, Job, pages_left}
 use Rattle.ol_online.proofs.archive.take_pages.Given as goal
 
 abbrev pub invariant-loop-end : goal.invariant-loop-end
 invariant-loop-end g l =
-    (lines : List Line) (journal : List Record) (w : Written) → IsCopying lines l.line journal w l.fn.core l.fn.writer 0 → (k : ℕ) × IsCopying lines l.line journal w l.core l.writer k
+    (lines : List Line) (job : Job) (w : Written) → IsCopying lines l.line job w l.fn.core l.fn.writer 0 → (k : ℕ) × IsCopying lines l.line job w l.core l.writer k
 
 abbrev pub decreases-loop-end : goal.decreases-loop-end
 decreases-loop-end g l = pages_left l.core

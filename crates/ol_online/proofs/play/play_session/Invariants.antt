@@ -1,11 +1,14 @@
 use Rattle.std.proofs.Common.{List, drop, ◌++◌}
 use Rattle.ol_model.specs.declared.line.Line.{Line}
+use Rattle.ol_model.specs.Config.{Config}
 use Rattle.ol_model.specs.Lines.{First}
+use Rattle.ol_core.specs.Core.{IsIdle}
 use Rattle.ol_online.specs.Playing.{IsReached, IsWaiting}
 use Rattle.ol_online.proofs.play.play_session.Given as goal
 
 abbrev pub invariant-loop-line : goal.invariant-loop-line
 invariant-loop-line l = record {
-  waiting : IsWaiting l.core;
-  reached : (all rest : List Line) → IsReached all l.fn.core (l.lines ++ rest) First → IsReached all l.core (drop l.line-index l.lines ++ rest) First;
+  idle : IsIdle l.core;
+  waiting : (c : Config) → IsWaiting c l.fn.core → IsWaiting c l.core;
+  reached : (c : Config) (all rest : List Line) → IsReached c all l.fn.core (l.lines ++ rest) First → IsReached c all l.core (drop l.line-index l.lines ++ rest) First;
 }

@@ -1,0 +1,199 @@
+-- How a command ends of which no count of faults rose: well, or for want of memory.
+use Rattle.std.specs.Prelude.{Err, List, Ok, Option, Result, Some, [], length, refl, take, ℕ, ◌∷◌, ◌≡◌, ◌≤◌, ◌⊎◌}
+use Rattle.std.proofs.Common.{arith, inl, inr, subst, sym, ◌∙◌}
+use Rattle.ol_chunks.specs.Reading.{config_of}
+use Rattle.ol_format.specs.First.{AreLarge, IsFirstSmall, chunks_of}
+use Rattle.ol_model.specs.Config.{Config}
+use Rattle.ol_model.specs.declared.history.Entry.{Entry}
+use Rattle.ol_model.specs.declared.line.Line.{Line}
+use Rattle.ol_outside.specs.Causes.{IsCalm, Rose}
+use Rattle.ol_outside.specs.Disk.{Bytes, Past}
+use Rattle.ol_outside.specs.Drive.{capacity}
+use Rattle.ol_reserve.specs.Pair.{Newest}
+use Rattle.ol_reserve.specs.declared.anchor.Anchor.{Anchor}
+use Rattle.ol_script.specs.Script.{script_of}
+use Rattle.ol_volume.specs.Written.{Written}
+use Rattle.ol_online.specs.declared.status.NotReady.TheVariants.{Blank, Restoring}
+use Rattle.ol_online.specs.declared.status.Status.{Status}
+use Rattle.ol_online.specs.declared.status.Status.TheVariants.{BadConfig, BadDisk, BadScript, BadWords, DiskFault, NoMemory, NotReady, Ok as Done, OutOfTape, ReadFault, TapeFault, TooSmall, WriteFault}
+use Rattle.ol_online.specs.declared.told.Told.{Told}
+use Rattle.ol_online.specs.declared.words.Verb.{Verb}
+use Rattle.ol_online.specs.declared.words.Verb.TheVariants.{Init, Play}
+use Rattle.ol_online.specs.Command.{EndsPlay, EndsScript, EndsUnplayed, EndsWork, IsInit, IsPlayed, IsPrepared, IsReported, PlayedTo, archive_line_in, history_in, status_of_init}
+use Rattle.ol_online.specs.Initing.{EndsInit, config_limit}
+use Rattle.ol_online.specs.Opening.{HasStatusCause, IsOpened, OpensTable}
+use Rattle.ol_online.specs.Planning.{planned}
+use Rattle.ol_online.specs.Playing.{due, journal_after}
+
+-- the command did its work, or memory was wanted
+abbrev IsWell : Status → Type 0
+IsWell status = (status ≡ Done) ⊎ (status ≡ NoMemory)
+
+no_fault : (before after : ℕ) → Rose before after → IsCalm before after → ⊥
+no_fault before after rose calm = omega (arith, rose, calm)
+
+-- a chunk is not both as large as a configuration says and smaller
+no_small : (sizes : ℕ → ℕ) (c : Config) (chunk : ℕ) → AreLarge sizes c (chunks_of c) → IsFirstSmall sizes c chunk → ⊥
+no_small sizes c chunk large first = let enough = large chunk first.there in omega (arith, enough, first.small)
+
+-- the status is no fault of the disk where none of its counts rose
+no_disk_fault : (before now : ℕ → ℕ) (status : Status) → HasStatusCause before now status → ((chunk : ℕ) → IsCalm (before chunk) (now chunk)) → (chunk : ℕ) → status ≡ DiskFault chunk → ⊥
+no_disk_fault before now status cause calm chunk is = no_fault (before chunk) (now chunk) (cause.fault chunk is) (calm chunk)
+
+-- the status of the work is reported where no write failed
+told_as_ended : (before after : ℕ) (ended status : Status) → IsCalm before after → IsReported before after ended status → status ≡ ended
+told_as_ended before after ended status calm (inl is) = is
+told_as_ended before after ended status calm (inr is) = absurd (no_fault before after is.2 calm)
+
+-- ---- a play
+
+-- what a play needs besides memory: a script, an installation on line with large chunks, and lines that are built
+record IsPlayable (left : Option (List ℕ)) (tells : Type 0) (d : Bytes) (sizes : ℕ → ℕ) (lines : List Line) (c : Config) (n : ℕ) : Type 0 where
+  bytes : List ℕ
+  reads : left ≡ Some bytes
+  script : script_of bytes ≡ Ok lines
+  told : tells
+  anchor : Anchor
+  newest : Newest d (Some anchor)
+  opens : OpensTable sizes anchor (Ok c)
+  plans : planned c lines ≡ Ok n
+
+calm_script : (left : Option (List ℕ)) (bytes : List ℕ) (lines : List Line) (before after : ℕ) (status : Status) → left ≡ Some bytes → script_of bytes ≡ Ok lines → IsCalm before after
+    → EndsScript left before after (Err status) → status ≡ NoMemory
+calm_script left bytes lines before after (BadScript line) is reads calm e = let bad = e bytes is in cc
+calm_script left bytes lines before after ReadFault is reads calm e = absurd (no_fault before after e calm)
+calm_script left bytes lines before after NoMemory is reads calm e = refl
+calm_script left bytes lines before after Done is reads calm e = absurd e
+calm_script left bytes lines before after BadWords is reads calm e = absurd e
+calm_script left bytes lines before after (BadConfig line) is reads calm e = absurd e
+calm_script left bytes lines before after (NotReady state) is reads calm e = absurd e
+calm_script left bytes lines before after (BadDisk chunk page) is reads calm e = absurd e
+calm_script left bytes lines before after (TooSmall chunk) is reads calm e = absurd e
+calm_script left bytes lines before after (DiskFault chunk) is reads calm e = absurd e
+calm_script left bytes lines before after WriteFault is reads calm e = absurd e
+calm_script left bytes lines before after (TapeFault drive) is reads calm e = absurd e
+calm_script left bytes lines before after (OutOfTape drive) is reads calm e = absurd e
+
+calm_opening : (sizes : ℕ → ℕ) (a : Anchor) (c : Config) (status : Status) → OpensTable sizes a (Ok c) → ((chunk : ℕ) → status ≡ DiskFault chunk → ⊥) → IsOpened sizes a (Err status) → status ≡ NoMemory
+calm_opening sizes a c (TooSmall chunk) (on_line, reads, large) no_disk (other, state, text, first) =
+    let same : other ≡ c = cc in absurd (no_small sizes c chunk large (subst (λ (x : Config). IsFirstSmall sizes x chunk) same first))
+calm_opening sizes a c (NotReady Restoring) good no_disk o = absurd (omega (arith, good.0, o))
+calm_opening sizes a c (NotReady Blank) good no_disk o = absurd o
+calm_opening sizes a c (DiskFault chunk) good no_disk o = absurd (no_disk chunk refl)
+calm_opening sizes a c (BadDisk chunk page) good no_disk o = absurd o
+calm_opening sizes a c NoMemory good no_disk o = refl
+calm_opening sizes a c Done good no_disk o = absurd o
+calm_opening sizes a c BadWords good no_disk o = absurd o
+calm_opening sizes a c (BadScript line) good no_disk o = absurd o
+calm_opening sizes a c (BadConfig line) good no_disk o = absurd o
+calm_opening sizes a c ReadFault good no_disk o = absurd o
+calm_opening sizes a c WriteFault good no_disk o = absurd o
+calm_opening sizes a c (TapeFault drive) good no_disk o = absurd o
+calm_opening sizes a c (OutOfTape drive) good no_disk o = absurd o
+
+-- what was read, opened and planned is that script, configuration and plan
+prepared_is : (left : Option (List ℕ)) (tells : Type 0) (d : Bytes) (sizes : ℕ → ℕ) (lines : List Line) (c : Config) (n : ℕ) (given : List Line) (found : Config) (plan : Result ℕ ℕ)
+    → IsPlayable left tells d sizes lines c n → IsPrepared left tells d sizes given found plan → (given ≡ lines) × (found ≡ c) × (plan ≡ Ok n)
+prepared_is left tells d sizes lines c n given found plan p q =
+    let read : given ≡ lines = (let first = q.says p.bytes p.reads in let second = p.script in cc) in
+    let opened : found ≡ c = (let first = (q.opens p.told).only p.anchor p.newest in let one = first.1 in let two = p.opens.1 in cc) in
+    (read, opened, (let first = q.plans in let second = p.plans in cc))
+
+calm_unplayed : (left : Option (List ℕ)) (before after : ℕ) (tells : Type 0) (d : Bytes) (sizes : ℕ → ℕ) (lines : List Line) (c : Config) (n : ℕ) (status : Status)
+    → IsPlayable left tells d sizes lines c n → IsCalm before after → ((chunk : ℕ) → status ≡ DiskFault chunk → ⊥) → EndsUnplayed left before after tells d sizes status → status ≡ NoMemory
+calm_unplayed left before after tells d sizes lines c n status p calm no_disk (inl e) = calm_script left p.bytes lines before after status p.reads p.script calm e
+calm_unplayed left before after tells d sizes lines c n status p calm no_disk (inr (inl (given, says, opens))) =
+    calm_opening sizes p.anchor c status p.opens no_disk ((opens p.told).only p.anchor p.newest)
+calm_unplayed left before after tells d sizes lines c n status p calm no_disk (inr (inr (given, found, bad, prepared, is))) =
+    let same = (prepared_is left tells d sizes lines c n given found (Err bad) p prepared).2 in cc
+
+calm_play : (c : Config) (lines : List Line) (archive : Option Line) (w v : Written) (h : List Entry) (status : Status) → IsCalm w.faults v.faults → length (due c archive (journal_after c h)) ≤ capacity w.tape
+    → PlayedTo c lines archive w h v status → IsWell status
+calm_play c lines archive w v h Done calm enough p = inl refl
+calm_play c lines archive w v h NoMemory calm enough p = inr refl
+calm_play c lines archive w v h (TapeFault drive) calm enough (count, (legal, part, (drive_is, count_is, rose), tells)) = absurd (no_fault w.faults v.faults rose calm)
+calm_play c lines archive w v h (OutOfTape drive) calm enough (legal, part, (drive_is, few, room, rooms, faults), tells) = absurd (omega (arith, few, enough))
+calm_play c lines archive w v h WriteFault calm enough p = absurd p
+calm_play c lines archive w v h BadWords calm enough p = absurd p
+calm_play c lines archive w v h (BadScript line) calm enough p = absurd p
+calm_play c lines archive w v h (BadConfig line) calm enough p = absurd p
+calm_play c lines archive w v h (NotReady state) calm enough p = absurd p
+calm_play c lines archive w v h (BadDisk chunk page) calm enough p = absurd p
+calm_play c lines archive w v h (TooSmall chunk) calm enough p = absurd p
+calm_play c lines archive w v h ReadFault calm enough p = absurd p
+calm_play c lines archive w v h (DiskFault chunk) calm enough p = absurd p
+
+-- the same of the lines, configuration and history that a play tells
+calm_played : (c : Config) (lines : List Line) (n : ℕ) (w : Written) (told : Told) (v : Written) (status : Status) → IsCalm w.faults v.faults
+    → length (due c (archive_line_in n lines) (journal_after c (history_in told))) ≤ capacity w.tape → IsPlayed c lines n w told v status → IsWell status
+calm_played c lines n w told v status calm enough p =
+    let told_history : history_in told ≡ p.history = subst (λ (t : Told). history_in t ≡ p.history) (sym p.told_is) refl in
+    calm_play c lines (archive_line_in n lines) w v p.history status calm (subst (λ (h : List Entry). length (due c (archive_line_in n lines) (journal_after c h)) ≤ capacity w.tape) told_history enough) p.played
+
+calm_work : (left : Option (List ℕ)) (before after : ℕ) (tells : Type 0) (d : Bytes) (sizes : ℕ → ℕ) (lines : List Line) (c : Config) (n : ℕ) (w : Written) (told : Told) (v : Written) (status : Status)
+    → IsPlayable left tells d sizes lines c n → IsCalm before after → ((chunk : ℕ) → status ≡ DiskFault chunk → ⊥) → IsCalm w.faults v.faults
+    → length (due c (archive_line_in n lines) (journal_after c (history_in told))) ≤ capacity w.tape → EndsPlay left before after tells d sizes w told v status → IsWell status
+calm_work left before after tells d sizes lines c n w told v status p calm no_disk tape enough (inl (unplayed, e)) =
+    inr (calm_unplayed left before after tells d sizes lines c n status p calm no_disk e)
+calm_work left before after tells d sizes lines c n w told v status p calm no_disk tape enough (inr (given, found, count, prepared, played)) =
+    let same = prepared_is left tells d sizes lines c n given found (Ok count) p prepared in
+    let counted : count ≡ n = (let plan = same.2 in cc) in
+    let there : IsPlayed c lines n w told v status =
+    subst (λ (x : Config). IsPlayed x lines n w told v status) same.1
+    (subst (λ (l : List Line). IsPlayed found l n w told v status) same.0
+    (subst (λ (k : ℕ). IsPlayed found given k w told v status) counted played)) in
+    calm_played c lines n w told v status tape enough there
+
+-- where no count rose, a play over a sound disk, with tape enough, was played to its end, or memory was wanted
+pub calm_command : (verb : Option Verb) (left : Option (List ℕ)) (bytes : List ℕ) (lines : List Line) (a : Anchor) (c : Config) (n before after : ℕ) (tells : Type 0) (d : Bytes) (sizes : ℕ → ℕ) (past : Past)
+    (counts_before counts_after : ℕ → ℕ) (w : Written) (told : Told) (v : Written) (h : List Entry) (writes_before writes_after : ℕ) (ended status : Status)
+    → EndsWork verb left before after tells d sizes past w told v ended → HasStatusCause counts_before counts_after ended → IsReported writes_before writes_after ended status → h ≡ history_in told
+    → verb ≡ Some Play → left ≡ Some bytes → script_of bytes ≡ Ok lines → tells → Newest d (Some a) → OpensTable sizes a (Ok c) → planned c lines ≡ Ok n
+    → IsCalm before after → ((chunk : ℕ) → IsCalm (counts_before chunk) (counts_after chunk)) → IsCalm w.faults v.faults → IsCalm writes_before writes_after
+    → length (due c (archive_line_in n lines) (journal_after c h)) ≤ capacity w.tape → (status ≡ Done) ⊎ (status ≡ NoMemory)
+calm_command verb left bytes lines a c n before after tells d sizes past counts_before counts_after w told v h writes_before writes_after ended status ends cause reported history play reads script disk newest opens plans
+    calm disk_calm tape_calm sink_calm enough =
+    let ready : IsPlayable left tells d sizes lines c n = record { bytes = bytes; reads = reads; script = script; told = disk; anchor = a; newest = newest; opens = opens; plans = plans } in
+    let work : EndsPlay left before after tells d sizes w told v ended = subst (λ (x : Option Verb). EndsWork x left before after tells d sizes past w told v ended) play ends in
+    let room = subst (λ (x : List Entry). length (due c (archive_line_in n lines) (journal_after c x)) ≤ capacity w.tape) history enough in
+    subst IsWell (sym (told_as_ended writes_before writes_after ended status sink_calm reported))
+    (calm_work left before after tells d sizes lines c n w told v ended ready calm (no_disk_fault counts_before counts_after ended cause disk_calm) tape_calm room work)
+
+-- ---- a formatting
+
+calm_format : (left : Option (List ℕ)) (bytes : List ℕ) (c : Config) (before after : ℕ) (tells : Type 0) (sizes : ℕ → ℕ) (past : Past) (result : Result Unit Status)
+    → left ≡ Some bytes → config_of (take config_limit bytes) ≡ Ok c → AreLarge sizes c (chunks_of c) → IsCalm before after → ((chunk : ℕ) → status_of_init result ≡ DiskFault chunk → ⊥)
+    → EndsInit left before after tells sizes past result → IsWell (status_of_init result)
+calm_format left bytes c before after tells sizes past (Ok u) is reads large calm no_disk e = inl refl
+calm_format left bytes c before after tells sizes past (Err NoMemory) is reads large calm no_disk e = inr refl
+calm_format left bytes c before after tells sizes past (Err (BadConfig line)) is reads large calm no_disk e = let bad = e bytes is in cc
+calm_format left bytes c before after tells sizes past (Err ReadFault) is reads large calm no_disk e = absurd (no_fault before after e calm)
+calm_format left bytes c before after tells sizes past (Err (DiskFault chunk)) is reads large calm no_disk e = absurd (no_disk chunk refl)
+calm_format left bytes c before after tells sizes past (Err (TooSmall chunk)) is reads large calm no_disk (other, says, first) =
+    let same : other ≡ c = (let told = says bytes is in cc) in absurd (no_small sizes c chunk large (subst (λ (x : Config). IsFirstSmall sizes x chunk) same first))
+calm_format left bytes c before after tells sizes past (Err Done) is reads large calm no_disk e = absurd e.2
+calm_format left bytes c before after tells sizes past (Err BadWords) is reads large calm no_disk e = absurd e.2
+calm_format left bytes c before after tells sizes past (Err (BadScript line)) is reads large calm no_disk e = absurd e.2
+calm_format left bytes c before after tells sizes past (Err (NotReady state)) is reads large calm no_disk e = absurd e.2
+calm_format left bytes c before after tells sizes past (Err (BadDisk chunk page)) is reads large calm no_disk e = absurd e.2
+calm_format left bytes c before after tells sizes past (Err WriteFault) is reads large calm no_disk e = absurd e.2
+calm_format left bytes c before after tells sizes past (Err (TapeFault drive)) is reads large calm no_disk e = absurd e.2
+calm_format left bytes c before after tells sizes past (Err (OutOfTape drive)) is reads large calm no_disk e = absurd e.2
+
+-- one of the items of a list of five
+pub some_item : {T : Type 0} (items : List T) → length items ≡ 5 → T
+some_item [] five = absurd (omega (arith, five))
+some_item (item ∷ items) five = item
+
+-- where no count rose, a disk with large chunks was formatted, or memory was wanted
+pub calm_init : (verb : Option Verb) (left : Option (List ℕ)) (bytes : List ℕ) (c : Config) (before after : ℕ) (tells : Type 0) (d : Bytes) (sizes : ℕ → ℕ) (past : Past)
+    (counts_before counts_after : ℕ → ℕ) (w : Written) (told : Told) (v : Written) (writes_before writes_after : ℕ) (ended status : Status)
+    → EndsWork verb left before after tells d sizes past w told v ended → HasStatusCause counts_before counts_after ended → IsReported writes_before writes_after ended status
+    → verb ≡ Some Init → left ≡ Some bytes → config_of (take config_limit bytes) ≡ Ok c → AreLarge sizes c (chunks_of c)
+    → IsCalm before after → ((chunk : ℕ) → IsCalm (counts_before chunk) (counts_after chunk)) → IsCalm writes_before writes_after → (status ≡ Done) ⊎ (status ≡ NoMemory)
+calm_init verb left bytes c before after tells d sizes past counts_before counts_after w told v writes_before writes_after ended status ends cause reported init reads config large calm disk_calm sink_calm =
+    let work : IsInit left before after tells sizes past told ended × (v ≡ w) = subst (λ (x : Option Verb). EndsWork x left before after tells d sizes past w told v ended) init ends in
+    let r = work.0.result in
+    let none : (chunk : ℕ) → status_of_init r ≡ DiskFault chunk → ⊥ = λ chunk is. no_disk_fault counts_before counts_after ended cause disk_calm chunk (work.0.status_is ∙ is) in
+    subst IsWell (sym (told_as_ended writes_before writes_after ended status sink_calm reported ∙ work.0.status_is))
+    (calm_format left bytes c before after tells sizes past r reads config large calm none work.0.ends)

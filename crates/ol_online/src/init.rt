@@ -1,0 +1,73 @@
+//! The command `init`: a configuration is read, and the disk is formatted for it.
+
+ghost use Rattle.std.specs.Prelude.{◌≡◌};
+ghost use Rattle.ol_online.specs.Initing.{EndsConfig, EndsFormat, EndsInit, LeavesDisk, status_of_format};
+ghost use Rattle.ol_online.specs.Opening.{HasDiskCause};
+
+use crate::status::Status;
+use ol_chunks::{ChunkTable, ConfigFault, parse_config};
+use ol_format::{FormatFault, format};
+use ol_outside::{Disk, ReadError, Source, read_all};
+use std::alloc::Global;
+
+/// The most bytes that are read of a configuration: one more than any has.
+const CONFIG_LIMIT: usize = 1025;
+
+/// Formats a disk for the configuration that a source has.
+///
+/// `ReadFault` comes where a read of the source failed, and `BadConfig` names the first line that is off the grammar or
+/// breaks a limit. The disk is not touched then. `TooSmall` and `DiskFault` come as in the formatting of the disk,
+/// `NoMemory` where memory was refused.
+pub(crate) fn init<D: Disk, S: Source>(
+    alloc: Global,
+    disk: &mut D,
+    source: &mut S,
+) -> Result<(), Status>
+    ensures ended { EndsInit (S.left source.old) (S.fault_count source.old) (S.fault_count source.new) D.tells (D.sizes disk.old) (D.past disk.new) result }
+    ensures untouched { LeavesDisk result disk.old disk.new }
+    ensures cause { HasDiskCause (D.fault_counts disk.old) (D.fault_counts disk.new) result }
+    ensures sizes { D.sizes disk.new ≡ D.sizes disk.old }
+{
+    match read_config(alloc, source) {
+        Ok(table) => format_for(disk, &table),
+        Err(status) => Err(status),
+    }
+}
+
+/// Reads a configuration.
+fn read_config<S: Source>(alloc: Global, source: &mut S) -> Result<ChunkTable, Status>
+    ensures { EndsConfig (S.left source.old) (S.fault_count source.old) (S.fault_count source.new) result }
+{
+    match read_all(alloc, source, CONFIG_LIMIT) {
+        Ok(text) => match parse_config(alloc, &text) {
+            Ok(table) => Ok(table),
+            Err(ConfigFault::BadConfig { line }) => Err(Status::BadConfig { line }),
+            Err(ConfigFault::NoMemory) => Err(Status::NoMemory),
+        },
+        Err(ReadError::Failed) => Err(Status::ReadFault),
+        Err(ReadError::NoMemory) => Err(Status::NoMemory),
+    }
+}
+
+/// Formats a disk for a configuration.
+fn format_for<D: Disk>(disk: &mut D, table: &ChunkTable) -> Result<(), Status>
+    ensures ended { EndsFormat D.tells (D.sizes disk.old) (D.past disk.new) table.now result }
+    ensures untouched { LeavesDisk result disk.old disk.new }
+    ensures cause { HasDiskCause (D.fault_counts disk.old) (D.fault_counts disk.new) result }
+    ensures sizes { D.sizes disk.new ≡ D.sizes disk.old }
+{
+    match format(disk, table) {
+        Ok(()) => Ok(()),
+        Err(fault) => Err(status_of(fault)),
+    }
+}
+
+/// The status of a disk that was not formatted.
+fn status_of(fault: FormatFault) -> Status
+    ensures { result ≡ status_of_format fault }
+{
+    match fault {
+        FormatFault::TooSmall { chunk } => Status::TooSmall { chunk },
+        FormatFault::DiskFault { chunk } => Status::DiskFault { chunk },
+    }
+}
