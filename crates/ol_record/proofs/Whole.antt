@@ -5,6 +5,7 @@ use Rattle.std.specs.List.{list_all}
 use Rattle.std.proofs.lemmas.Bool.{and_from, and_parts, eqb-true, leb-true, le-leb, le-ltb, ltb-false}
 use Rattle.std.proofs.lemmas.List.{drop_at, length-append, length-drop, length-take, take-append-drop, take_at}
 use Rattle.ol_model.specs.declared.record.Record.{Record}
+use Rattle.ol_model.proofs.Zeros.{zeros_again, zeros_from}
 use Rattle.ol_record.specs.declared.head.LogHead.{LogHead}
 use Rattle.ol_record.specs.LogPages.{IsImage, IsLogPage, LogPage, fixed_bytes, head_of, log_page_bytes, padding, page_in, tally_bytes}
 use Rattle.ol_record.specs.PageReading.{body_at, head_at, in_limits, in_range, page_at}
@@ -14,18 +15,6 @@ use Rattle.ol_record.proofs.Fields.{IsBytes, IsBytes-take, bind_some, guard_fals
 use Rattle.ol_record.proofs.Heads.{Fits, front, head_again, head_takes}
 use Rattle.ol_record.proofs.Pages.{filling_from, gate_back, page_in_back}
 use Rattle.ol_record.proofs.Several.{AreRecords, few_in, whole_again, whole_takes}
-
--- ---- zeros
-
-zeros_from : (bytes : List ℕ) → list_all (λ b. eqb b 0) bytes ≡ true → bytes ≡ replicate (length bytes) 0
-zeros_from [] e = refl
-zeros_from (b ∷ bytes) e =
-    let both = and_parts (eqb b 0) (list_all (λ b. eqb b 0) bytes) e in
-    ap (λ (n : ℕ). n ∷ bytes) (eqb-true b 0 both.0) ∙ ap (λ (l : List ℕ). 0 ∷ l) (zeros_from bytes both.1)
-
-zeros_again : (n : ℕ) → list_all (λ b. eqb b 0) (replicate n 0) ≡ true
-zeros_again zero = refl
-zeros_again (suc n) = zeros_again n
 
 -- ---- limits
 
