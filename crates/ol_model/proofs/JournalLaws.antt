@@ -2,7 +2,7 @@
 use Rattle.std.specs.List.{enumerate_from, range_with_len}
 use Rattle.std.specs.Prelude.{Bool, List, None, Option, [], false, fold, if◌then◌else◌, length, map, true, ℕ, ◌&&◌, ◌++◌, ◌+◌, ◌<◌, ◌==◌, ◌∷◌, ◌≡◌, ◌≤◌, ◌≢◌, refl, slice_index_or, slice_set, suc, zero}
 use Rattle.std.proofs.Common.{ap, sym, ◌∙◌, arith, eq-eqb}
-use Rattle.std.proofs.lemmas.Bool.{eqb-true}
+use Rattle.std.proofs.lemmas.Bool.{and_parts, eqb-true}
 use Rattle.std.proofs.lemmas.List.Sums.{fold-append}
 use Rattle.ol_model.specs.declared.record.Record.{Record}
 use Rattle.ol_model.specs.declared.record.Record.TheVariants.{Begin as BeginRecord, Change, Commit as CommitRecord, Rolled, Undo}
@@ -29,11 +29,11 @@ stamp_at-push j r space page =
 
 -- ---- pages
 
-map_same : {X : Type 0} (f g : ℕ → X) (a n : ℕ) → ((k : ℕ) → a ≤ k → f k ≡ g k) → map f (range_with_len a n) ≡ map g (range_with_len a n)
+pub map_same : {X : Type 0} (f g : ℕ → X) (a n : ℕ) → ((k : ℕ) → a ≤ k → k < a + n → f k ≡ g k) → map f (range_with_len a n) ≡ map g (range_with_len a n)
 map_same f g a zero same = refl
 map_same {X = X} f g a (suc n) same =
-    ap (λ (x : X). x ∷ map f (range_with_len (a + 1) n)) (same a (omega arith))
-    ∙ ap (λ (l : List X). g a ∷ l) (map_same f g (a + 1) n (λ k h. same k (omega arith)))
+    ap (λ (x : X). x ∷ map f (range_with_len (a + 1) n)) (same a (omega arith) (omega arith))
+    ∙ ap (λ (l : List X). g a ∷ l) (map_same f g (a + 1) n (λ k le lt. same k (omega arith) (omega arith)))
 
 -- a list that is computed from its indexes, with one element replaced
 set_range : {X : Type 0} (f g : ℕ → X) (a n i : ℕ) (v : X) → i < n → g (a + i) ≡ v → ((k : ℕ) → k ≢ a + i → f k ≡ g k) → slice_set (map f (range_with_len a n)) i v ≡ map g (range_with_len a n)
@@ -41,21 +41,17 @@ set_range f g a zero i v lt here others = absurd (omega arith)
 set_range {X = X} f g a (suc n) zero v lt here others =
     let at_first : g a ≡ g (a + 0) = ap g (omega arith) in
     ap (λ (x : X). x ∷ map f (range_with_len (a + 1) n)) (sym here ∙ sym at_first)
-    ∙ ap (λ (l : List X). g a ∷ l) (map_same f g (a + 1) n (λ k h. others k (omega arith)))
+    ∙ ap (λ (l : List X). g a ∷ l) (map_same f g (a + 1) n (λ k le lt. others k (omega arith)))
 set_range {X = X} f g a (suc n) (suc i) v lt here others =
     let there : g (a + 1 + i) ≡ v = ap g (omega arith) ∙ here in
     ap (λ (x : X). x ∷ slice_set (map f (range_with_len (a + 1) n)) i v) (others a (omega arith))
     ∙ ap (λ (l : List X). g a ∷ l) (set_range f g (a + 1) n i v (omega arith) there (λ k h. others k (omega arith)))
 
-both : (a b : Bool) → (a && b) ≡ true → (a ≡ true) × (b ≡ true)
-both true b h = (refl, h)
-both false b h = absurd (let e : false ≡ true = h in cc)
-
 -- a place of the page that a record changes is on the page that it touches
 same_page : (rid place : Rid) → same_place rid place ≡ true → ((rid.space == place.space) && (rid.page == place.page)) ≡ true
 same_page rid place h =
-    let q = both (rid.space == place.space) ((rid.page == place.page) && (rid.slot == place.slot)) h in
-    rw (q.0) ((both (rid.page == place.page) (rid.slot == place.slot) q.1).0)
+    let q = and_parts (rid.space == place.space) ((rid.page == place.page) && (rid.slot == place.slot)) h in
+    rw (q.0) ((and_parts (rid.page == place.page) (rid.slot == place.slot) q.1).0)
 
 kept_by : (rid place : Rid) (held value : Option Row) → ((rid.space == place.space) && (rid.page == place.page)) ≡ false → (if same_place rid place then value else held) ≡ held
 kept_by rid place held value h =
@@ -66,7 +62,7 @@ kept_by rid place held value h =
     cases false e = refl
 
 -- what a record leaves a place of a page that it does not touch
-row_kept : (r : Record) (space page slot : ℕ) (held : Option Row) → touches space page r ≡ false → row_after (rid_of space page slot) held r ≡ held
+pub row_kept : (r : Record) (space page slot : ℕ) (held : Option Row) → touches space page r ≡ false → row_after (rid_of space page slot) held r ≡ held
 row_kept (BeginRecord txn) space page slot held h = refl
 row_kept (Change txn rid before after) space page slot held h = kept_by rid (rid_of space page slot) held after h
 row_kept (Undo txn rid value) space page slot held h = kept_by rid (rid_of space page slot) held value h
@@ -79,7 +75,7 @@ slot_of j space page k = row_from (slice_index_or blank.slots k None) j (rid_of 
 slot_of-push : (j : List Record) (r : Record) (space page k : ℕ) → slot_of (j ++ r ∷ []) space page k ≡ row_after (rid_of space page k) (slot_of j space page k) r
 slot_of-push j r space page k = fold-append (row_after (rid_of space page k)) (slice_index_or blank.slots k None) j (r ∷ [])
 
-same_pages : (stamp stamp' : ℕ) (slots slots' : List (Option Row)) → stamp ≡ stamp' → slots ≡ slots'
+pub same_pages : (stamp stamp' : ℕ) (slots slots' : List (Option Row)) → stamp ≡ stamp' → slots ≡ slots'
     → ◌≡◌ {A = Page} (record { stamp = stamp; slots = slots }) (record { stamp = stamp'; slots = slots' })
 same_pages stamp stamp' slots slots' p q =
     ap (λ (s : ℕ). let r : Page = record { stamp = s; slots = slots } in r) p
@@ -91,9 +87,9 @@ unfolding page_from
 page_at-untouched j r space page h =
     same_pages _ _ _ _
     (stamp_at-push j r space page ∙ rw (h) refl)
-    (map_same (slot_of (j ++ r ∷ []) space page) (slot_of j space page) 0 31 (λ k _. slot_of-push j r space page k ∙ row_kept r space page k (slot_of j space page k) h))
+    (map_same (slot_of (j ++ r ∷ []) space page) (slot_of j space page) 0 31 (λ k le lt. slot_of-push j r space page k ∙ row_kept r space page k (slot_of j space page k) h))
 
-same_self : (n : ℕ) → (n == n) ≡ true
+pub same_self : (n : ℕ) → (n == n) ≡ true
 same_self n = eq-eqb n n refl
 
 other_slot : (rid : Rid) (k : ℕ) → k ≢ rid.slot → same_place rid (rid_of rid.space rid.page k) ≡ false

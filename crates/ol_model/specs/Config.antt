@@ -1,6 +1,7 @@
 -- The configuration of an installation: its spaces with their chunks, and what stands in them beside data.
 use Rattle.std.specs.List.{list_all}
-use Rattle.std.specs.Prelude.{Bool, List, Option, [], bytes_eq, codes, decimal, flat_map, false, if◌then◌else◌, length, nat_le, position, slice_index_or, sum, ℕ, ◌&&◌, ◌*◌, ◌++◌, ◌+◌, ◌-◌, ◌==◌, ◌||◌, ◌∷◌}
+use Rattle.std.specs.Prelude.{Bool, List, Option, [], bytes_eq, codes, decimal, flat_map, false, if◌then◌else◌, length, nat_le, nat_lt, position, slice_index_or, sum, ℕ, ◌&&◌, ◌*◌, ◌++◌, ◌+◌, ◌-◌, ◌==◌, ◌||◌, ◌∷◌}
+use Rattle.ol_model.specs.declared.record.Rid.{Rid}
 
 -- a space: its name, and the pages of each of its chunks
 pub record SpaceConfig : Type 0 where
@@ -35,6 +36,18 @@ area_pages c space =
 -- the number of data pages of a space
 abbrev pub data_pages : Config → ℕ → ℕ
 data_pages c space = sum (space_at c space).chunks - area_pages c space
+
+-- the number of all log pages
+abbrev pub log_pages : Config → ℕ
+log_pages c = c.log_files * c.log_file_pages
+
+-- whether there is this data page
+abbrev pub has_page : Config → ℕ → ℕ → Bool
+has_page c space page = nat_lt space (length c.spaces) && nat_lt page (data_pages c space)
+
+-- whether there is this place
+abbrev pub has_place : Config → Rid → Bool
+has_place c rid = has_page c rid.space rid.page && nat_lt rid.slot 31
 
 abbrev pub is_small_letter : ℕ → Bool
 is_small_letter b = nat_le 97 b && nat_le b 122

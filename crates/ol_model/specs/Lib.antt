@@ -3,6 +3,9 @@ pub mod Config
 pub mod Journal
 pub mod Image
 pub mod Transactions
+pub mod Effects
+pub mod Sound
+pub mod Locks
 pub mod Saveset
 pub mod Blocks
 pub mod Machine

@@ -4,7 +4,7 @@ use crate::Row;
 
 /// The place of a row: a space by its number from 0, a data page of it from 0, and a slot of the page
 /// from 0 to 30.
-#[derive(Clone, Copy, Debug, PartialEq, Eq)]
+#[derive(Clone, Copy, Debug, PartialEq, Eq, Hash)]
 pub struct Rid {
     pub space: u8,
     pub page: u16,
