@@ -10,7 +10,7 @@ use Rattle.std.proofs.Math.ListN.{length-set}
 use Rattle.ol_model.specs.declared.row.Row.{Row}
 use Rattle.ol_model.specs.Journal.{Page, blank}
 use Rattle.ol_model.specs.Image.{IsPage, page_bytes, slot_bytes, slots_bytes, with_slot}
-use Rattle.ol_page.specs.Overwrite.{overwritten}
+use Rattle.ol_bytes.specs.Overwriting.{overwritten}
 
 -- a row fits its slot
 abbrev pub RowFits : Option Row → Type 0

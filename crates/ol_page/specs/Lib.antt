@@ -1,2 +1,1 @@
-pub mod Overwrite
 pub mod Testing

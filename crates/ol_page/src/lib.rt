@@ -6,7 +6,7 @@ ghost use Rattle.std.specs.Prelude.{◌≡◌, ◌+◌, ◌<◌, ◌≤◌, IfSo
 ghost use Rattle.ol_model.specs.declared.row.Row.{Row as RowValue};
 ghost use Rattle.ol_model.specs.Journal.{Page};
 ghost use Rattle.ol_model.specs.Image.{IsDataPage, IsPage, page_bytes, page_in, slot_bytes, with_slot};
-ghost use Rattle.ol_page.specs.Overwrite.{overwritten};
+ghost use Rattle.ol_bytes.specs.Overwriting.{overwritten};
 ghost use Rattle.ol_page.specs.Testing.{are_slots, are_zeros, has_gaps, has_stamp, is_data_page, is_slot, is_stamped};
 
 use ol_bytes::number;

@@ -7,7 +7,8 @@ use Rattle.std.proofs.lemmas.Nat.{be_bytes_2, be_bytes_4, be_bytes_8, from_be_by
 use Rattle.ol_model.specs.declared.record.Rid.{Rid}
 use Rattle.ol_model.specs.declared.row.Row.{Row}
 use Rattle.ol_record.specs.Spelling.{IsPlace, IsValue, place_bytes, value_bytes}
-use Rattle.ol_record.specs.Reading.{◌>>=◌, number_at, place_at, row_at, value_at}
+use Rattle.ol_bytes.specs.Reading.{◌>>=◌}
+use Rattle.ol_record.specs.Reading.{number_at, place_at, row_at, value_at}
 
 abbrev pub IsBytes : List ℕ → Type 0
 IsBytes bytes = (i : ℕ) → get_or bytes i 0 < 256

@@ -7,7 +7,7 @@ use Rattle.std.proofs.lemmas.List.{append-nil, drop_at, length-append, length-re
 use Rattle.std.proofs.lemmas.List.Concat.{flat_map-append, flat_map-cons}
 use Rattle.ol_model.specs.declared.record.Record.{Record}
 use Rattle.ol_record.specs.LogPages.{IsBuffer, IsFilling, IsImage, LogPage, blank_page, fixed_bytes, log_page_bytes, padding, page_in, tally_bytes, with_record}
-use Rattle.ol_record.specs.Overwriting.{overwritten}
+use Rattle.ol_bytes.specs.Overwriting.{overwritten}
 use Rattle.ol_record.specs.Spelling.{IsRecord, record_bytes, records_bytes}
 use Rattle.ol_record.proofs.Fields.{wide16}
 use Rattle.ol_record.proofs.Pages.{gate_back, page_in_back}

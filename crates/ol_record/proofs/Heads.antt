@@ -5,7 +5,8 @@ use Rattle.std.specs.Int.{Width, w16, w32, w64, to_be_bytes}
 use Rattle.std.proofs.lemmas.Bool.{and_parts, eqb-true}
 use Rattle.ol_record.specs.declared.head.LogHead.{LogHead}
 use Rattle.ol_record.specs.PageReading.{head_at, mark_at}
-use Rattle.ol_record.specs.Reading.{◌>>=◌, number_at}
+use Rattle.ol_bytes.specs.Reading.{◌>>=◌}
+use Rattle.ol_record.specs.Reading.{number_at}
 use Rattle.ol_record.proofs.Fields.{IsBytes, IsWide, Takes, Takes-then, bind_some, guard_true, number_again, number_takes, some_is, wide16, wide32, wide64}
 
 abbrev pub mark : ℕ → List ℕ

@@ -4,7 +4,7 @@ use Rattle.std.specs.Prelude.{IfSome}
 use Rattle.ol_record.specs.declared.head.LogHead.{LogHead}
 use Rattle.ol_record.specs.LogPages.{IsImage, IsLogPage, LogPage, head_of, log_page_bytes, page_in}
 use Rattle.ol_record.specs.PageReading.{page_at}
-use Rattle.ol_record.specs.Reading.{Gives}
+use Rattle.ol_bytes.specs.Reading.{Gives}
 use Rattle.ol_record.proofs.Fields.{IsBytes}
 use Rattle.ol_record.proofs.Whole.{page_again, page_takes}
 

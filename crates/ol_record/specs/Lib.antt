@@ -2,4 +2,3 @@ pub mod Spelling
 pub mod Reading
 pub mod LogPages
 pub mod PageReading
-pub mod Overwriting

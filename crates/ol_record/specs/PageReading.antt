@@ -3,7 +3,8 @@ use Rattle.std.specs.Prelude.{Bool, List, None, Option, Some, drop, if◌then◌
 use Rattle.std.specs.List.{list_all}
 use Rattle.std.specs.Int.{w16, w32, w64}
 use Rattle.ol_record.specs.declared.head.LogHead.{LogHead}
-use Rattle.ol_record.specs.Reading.{◌>>=◌, number_at, whole_in}
+use Rattle.ol_bytes.specs.Reading.{◌>>=◌}
+use Rattle.ol_record.specs.Reading.{number_at, whole_in}
 
 -- behind the gate, whatever it is, and the mark of the format
 unfoldable pub mark_at : List ℕ → Option (List ℕ)

@@ -1,21 +1,11 @@
 -- Reading from left to right: each reader gives a value and the bytes behind it, or nothing.
 use Rattle.std.specs.Prelude.{Bool, List, None, Option, Some, [], drop, false, if◌then◌else◌, is_some, length, nat_lt, suc, take, zero, ℕ, ◌-◌, ◌==◌, ◌||◌, ◌∷◌, ◌≡◌}
 use Rattle.std.specs.Int.{Width, w16, w64, byte_len, from_be_bytes}
+use Rattle.ol_bytes.specs.Reading.{◌>>=◌}
 use Rattle.ol_model.specs.declared.record.Record.{Record}
 use Rattle.ol_model.specs.declared.record.Record.TheVariants.{Begin, Change, Commit, Rolled, Undo}
 use Rattle.ol_model.specs.declared.record.Rid.{Rid}
 use Rattle.ol_model.specs.declared.row.Row.{Row}
-
--- one reader after another, on what the first found
-infixl 10 ◌>>=◌
-abbrev pub ◌>>=◌ : {A B : Type 0} → Option A → (A → Option B) → Option B
-(Some x) >>= f = f x
-None >>= f = None
-
--- what a function returned, seen by view, is what reading gives
-abbrev pub Gives : {X Y : Type 0} → (X → Y) → Option X → Option Y → Type 0
-Gives view (Some x) read = read ≡ Some (view x)
-Gives view None read = read ≡ None
 
 -- a number of this width
 abbrev pub number_at : Width → List ℕ → Option (ℕ × List ℕ)

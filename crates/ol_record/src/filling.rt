@@ -4,11 +4,12 @@ ghost use Rattle.std.specs.Prelude.{◌≡◌, ◌+◌, ◌-◌, ◌≤◌, ◌�
 ghost use Rattle.std.specs.Bool.{OnFalse};
 ghost use Rattle.std.specs.Int.{w16, to_be_bytes};
 ghost use Rattle.ol_record.specs.LogPages.{IsBuffer, blank_page, fixed_bytes, log_page_bytes, page_in, tally_bytes, with_record};
-ghost use Rattle.ol_record.specs.Overwriting.{overwritten};
+ghost use Rattle.ol_bytes.specs.Overwriting.{overwritten};
 ghost use Rattle.ol_record.specs.Spelling.{IsRecord, KeepsRules, record_bytes, records_bytes};
 
 use crate::testing::PAGE_LENGTH;
-use crate::writing::{LONGEST_RECORD, encode, put};
+use crate::writing::{LONGEST_RECORD, encode};
+use ol_bytes::{clear_from, put};
 use ol_model::Record;
 
 /// The bytes in front of the records.
@@ -35,14 +36,6 @@ fn put_front(out: &mut [u8], index: u32, uniq: u64, incarnation: u64, first: u64
     let at = put(out, at, &incarnation.to_be_bytes());
     let at = put(out, at, &first.to_be_bytes());
     put(out, at, &[0; 4]);
-}
-
-/// Writes zeros from an index to the end.
-fn clear_from(out: &mut [u8], at: usize)
-    requires { at ≤ length out.old }
-    ensures { out.new ≡ take at out.old ++ replicate (length out.old - at) 0 }
-{
-    out[at..].fill(0);
 }
 
 /// Makes a page that holds no record yet, with its gate closed. `first` is the position that its first

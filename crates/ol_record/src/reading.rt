@@ -4,7 +4,8 @@ ghost use Rattle.std.specs.Prelude.{◌≡◌, ◌≤◌, ◌++◌, List, ℕ, I
 ghost use Rattle.std.specs.Int.{w64};
 ghost use Rattle.ol_model.specs.declared.record.Record.{Record as RecordValue};
 ghost use Rattle.ol_record.specs.Spelling.{IsRecord, record_bytes};
-ghost use Rattle.ol_record.specs.Reading.{Gives, change_at, kind_at, number_at, place_at, record_at, row_at, undo_at, value_at};
+ghost use Rattle.ol_bytes.specs.Reading.{Gives};
+ghost use Rattle.ol_record.specs.Reading.{change_at, kind_at, number_at, place_at, record_at, row_at, undo_at, value_at};
 
 use ol_model::{Record, Rid, Row};
 

@@ -4,22 +4,11 @@ ghost use Rattle.std.specs.Prelude.{◌≡◌, ◌+◌, ◌≤◌, ◌++◌, ◌
 ghost use Rattle.std.specs.Int.{w64, to_be_bytes};
 ghost use Rattle.ol_record.specs.Spelling.{IsPlace, IsRecord, IsValue, KeepsRules, place_bytes, record_bytes, value_bytes};
 
+use ol_bytes::put;
 use ol_model::{Record, Rid, Row};
 
 /// The bytes of the longest record: a change from a row of 63 bytes to another.
 pub const LONGEST_RECORD: usize = 141;
-
-/// Writes bytes from an index on, and gives the index behind them. Only what stands before that index is
-/// promised, so that the writes of a chain add up from the front.
-pub(crate) fn put(out: &mut [u8], at: usize, bytes: &[u8]) -> usize
-    requires { at + length bytes.now ≤ length out.old }
-    ensures next { result ≡ at + length bytes.now }
-    ensures front { take result out.new ≡ take at out.old ++ bytes.now }
-{
-    let end = at + bytes.len();
-    out[at..end].copy_from_slice(bytes);
-    end
-}
 
 /// Writes the kind and the transaction at the front, and gives the index behind them.
 fn put_head(out: &mut [u8], kind: u8, txn: u64) -> usize

@@ -1,7 +1,7 @@
 -- Steps of reading that found something.
 use Rattle.std.specs.Prelude.{Bool, None, Option, Some, cond, false, option_map, refl, true, ◌≡◌, ◌⊎◌}
 use Rattle.std.proofs.Common.{inl, inr}
-use Rattle.ol_script.specs.Reading.{◌>>=◌}
+use Rattle.ol_bytes.specs.Reading.{◌>>=◌}
 
 -- the value of a step, and what the next step made of it
 pub bind_some : {A B : Type 0} (r : Option A) (f : A → Option B) (y : B) → (r >>= f) ≡ Some y → (x : A) × (r ≡ Some x) × (f x ≡ Some y)

@@ -5,7 +5,7 @@ use Rattle.ol_model.specs.declared.history.Actor.TheVariants.{Archiver, Backer, 
 use Rattle.ol_model.specs.declared.line.Form.{Form}
 use Rattle.ol_model.specs.declared.line.Form.TheVariants.{Archive, Backup, Begin, Cancel, Checkpoint, Clean, Commit, Delete, End, Insert, List as ListForm, Read, Restore, Rollback, Start, Switch, Turn, Update}
 use Rattle.ol_script.specs.Pieces.{first_of, one_of, three_of, two_of}
-use Rattle.ol_script.specs.Reading.{◌>>=◌}
+use Rattle.ol_bytes.specs.Reading.{◌>>=◌}
 use Rattle.ol_script.specs.Words.{name_of, names_of, number_in, place_number, register_of, row_of, target_of}
 
 -- a form of one word

@@ -1,5 +1,4 @@
 pub mod Pieces
-pub mod Reading
 pub mod Words
 pub mod Forms
 pub mod Script

@@ -5,7 +5,7 @@ use Rattle.ol_model.specs.declared.line.Form.{Form}
 use Rattle.ol_model.specs.declared.line.Line.{Line}
 use Rattle.ol_script.specs.Forms.{form_of}
 use Rattle.ol_script.specs.Pieces.{first_of, pieces_of}
-use Rattle.ol_script.specs.Reading.{◌>>=◌}
+use Rattle.ol_bytes.specs.Reading.{◌>>=◌}
 use Rattle.ol_script.specs.Words.{actor_of}
 
 abbrev pub line_with : ℕ → Actor → Form → Line

@@ -9,7 +9,7 @@ use Rattle.ol_model.specs.declared.row.Row.{Row}
 use Rattle.ol_model.specs.Config.{is_digit, is_name}
 use Rattle.ol_model.specs.Text.{is_plain}
 use Rattle.ol_script.specs.Pieces.{pieces_of, two_of}
-use Rattle.ol_script.specs.Reading.{◌>>=◌}
+use Rattle.ol_bytes.specs.Reading.{◌>>=◌}
 
 -- no zero stands in front of further digits
 abbrev pub leads_well : List ℕ → Bool

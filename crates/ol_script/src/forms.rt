@@ -3,7 +3,7 @@
 ghost use Rattle.std.specs.Prelude.{◌≡◌};
 ghost use Rattle.ol_script.specs.Forms.{archive_of, archiver_form, backer_form, bare, checkpointer_form, count_of, delete_of, flusher_form, form_of, insert_of, list_of, read_of, restore_of, session_form, update_of, warmer_form};
 ghost use Rattle.ol_script.specs.Pieces.{pieces_behind};
-ghost use Rattle.ol_script.specs.Reading.{Gives};
+ghost use Rattle.ol_bytes.specs.Reading.{Gives};
 
 use crate::pieces::{next, one, three, two};
 use crate::words::{name_of, names_of, number_in, place_number, register_of, row_of, target_of};

@@ -4,7 +4,7 @@
 
 ghost use Rattle.std.specs.Prelude.{◌≡◌, ◌<◌, ◌≤◌, ◌∷◌, ◌==◌, IfSome, length, position};
 ghost use Rattle.ol_script.specs.Pieces.{first_of, one_of, pieces_behind, pieces_of, three_of, two_of};
-ghost use Rattle.ol_script.specs.Reading.{Gives};
+ghost use Rattle.ol_bytes.specs.Reading.{Gives};
 
 /// The first place of a byte in a text.
 pub(crate) fn position_of(mark: u8, text: &[u8]) -> Option<usize>

@@ -5,7 +5,7 @@ ghost use Rattle.std.specs.Io.KnownBytes.{Consumes};
 ghost use Rattle.ol_model.specs.History.{Ascends, lines_of, same_actor};
 ghost use Rattle.ol_outside.specs.Causes.{Rose};
 ghost use Rattle.ol_script.specs.Pieces.{pieces_behind, pieces_of};
-ghost use Rattle.ol_script.specs.Reading.{Gives};
+ghost use Rattle.ol_bytes.specs.Reading.{Gives};
 ghost use Rattle.ol_script.specs.Script.{line_at, line_of, script_limit, script_of};
 ghost use Rattle.ol_script.specs.Spelling.{AreLinesFrom, IsLine};
 ghost use Rattle.ol_script.specs.Sources.{WasRead};

@@ -5,7 +5,7 @@ ghost use Rattle.std.specs.List.{list_all, list_any};
 ghost use Rattle.ol_model.specs.Config.{begins_small, is_digit as is_digit_lem, is_name as is_name_lem, is_small_letter};
 ghost use Rattle.ol_model.specs.Text.{is_plain as is_plain_lem};
 ghost use Rattle.ol_script.specs.Pieces.{pieces_behind};
-ghost use Rattle.ol_script.specs.Reading.{Gives};
+ghost use Rattle.ol_bytes.specs.Reading.{Gives};
 ghost use Rattle.ol_script.specs.Words.{actor_by, actor_of, is_number as is_number_lem, is_row as is_row_lem, leads_well as leads_well_lem, name_of, names_of, number_in, place_number, place_of, register_of, row_of, target_by, target_of, value_of};
 
 use crate::pieces::{cut, next, two};
