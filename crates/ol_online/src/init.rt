@@ -1,7 +1,8 @@
 //! The command `init`: a configuration is read, and the disk is formatted for it.
 
 ghost use Rattle.std.specs.Prelude.{◌≡◌};
-ghost use Rattle.ol_online.specs.Initing.{EndsConfig, EndsFormat, EndsInit, LeavesDisk, status_of_format};
+ghost use Rattle.ol_format.specs.Formatted.{IsBetween, Stops};
+ghost use Rattle.ol_online.specs.Initing.{EndsConfig, EndsFormat, EndsInit, IsInitBetween, LeavesDisk, status_of_format};
 ghost use Rattle.ol_online.specs.Opening.{HasDiskCause};
 
 use crate::status::Status;
@@ -25,6 +26,7 @@ pub(crate) fn init<D: Disk, S: Source>(
 ) -> Result<(), Status>
     ensures ended { EndsInit (S.left source.old) (S.fault_count source.old) (S.fault_count source.new) D.tells (D.sizes disk.old) (D.past disk.new) result }
     ensures untouched { LeavesDisk result disk.old disk.new }
+    ensures stops { D.tells → Stops (D.past disk.old) (D.past disk.new) (IsInitBetween (S.left source.old) (D.past disk.old)) }
     ensures cause { HasDiskCause (D.fault_counts disk.old) (D.fault_counts disk.new) result }
     ensures sizes { D.sizes disk.new ≡ D.sizes disk.old }
 {
@@ -53,6 +55,7 @@ fn read_config<S: Source>(alloc: Global, source: &mut S) -> Result<ChunkTable, S
 fn format_for<D: Disk>(disk: &mut D, table: &ChunkTable) -> Result<(), Status>
     ensures ended { EndsFormat D.tells (D.sizes disk.old) (D.past disk.new) table.now result }
     ensures untouched { LeavesDisk result disk.old disk.new }
+    ensures stops { D.tells → Stops (D.past disk.old) (D.past disk.new) (IsBetween (D.past disk.old) table.now) }
     ensures cause { HasDiskCause (D.fault_counts disk.old) (D.fault_counts disk.new) result }
     ensures sizes { D.sizes disk.new ≡ D.sizes disk.old }
 {

@@ -15,6 +15,7 @@ mod work;
 ghost use Rattle.std.specs.Prelude.{◌≡◌, ◌≢◌, ◌≤◌, ◌⊎◌, ℕ, List, None, Ok, Some, All, length, slice_index_or, take};
 ghost use Rattle.ol_chunks.specs.Reading.{config_of};
 ghost use Rattle.ol_format.specs.First.{AreLarge, chunks_of};
+ghost use Rattle.ol_format.specs.Formatted.{Stops};
 ghost use Rattle.ol_model.specs.Config.{Config};
 ghost use Rattle.ol_model.specs.declared.line.Line.{Line};
 ghost use Rattle.ol_outside.specs.Causes.{IsCalm};
@@ -24,7 +25,7 @@ ghost use Rattle.ol_reserve.specs.declared.anchor.Anchor.{Anchor};
 ghost use Rattle.ol_reserve.specs.Pair.{Newest, there};
 ghost use Rattle.ol_script.specs.Script.{script_of};
 ghost use Rattle.ol_online.specs.Command.{IsCommanded, archive_line_in, drive_1};
-ghost use Rattle.ol_online.specs.Initing.{config_limit};
+ghost use Rattle.ol_online.specs.Initing.{IsInitBetween, config_limit};
 ghost use Rattle.ol_online.specs.Opening.{HasStatusCause, OpensTable};
 ghost use Rattle.ol_online.specs.Planning.{planned};
 ghost use Rattle.ol_online.specs.Playing.{due, journal_after};
@@ -81,6 +82,8 @@ pub fn command<D: Disk, T: Drive, F: Shelf, S: Source, K: Sink>(
     ensures calm_init { (bytes : List ℕ) (c : Config) → verb_told words.now ≡ Some Verb.Init → S.left script.old ≡ Some bytes → config_of (take config_limit bytes) ≡ Ok c → AreLarge (D.sizes rig.disk) c (chunks_of c) → IsCalm (S.fault_count script.old) (S.fault_count script.new) → ((chunk : ℕ) → IsCalm (D.fault_counts rig.disk chunk) (D.fault_counts result.0.disk chunk)) → IsCalm (K.fault_count out.old) (K.fault_count out.new) → (result.1 ≡ Status.Ok) ⊎ (result.1 ≡ Status.NoMemory) }
     ensures cause { HasStatusCause (D.fault_counts rig.disk) (D.fault_counts result.0.disk) result.1 }
     ensures past { D.tells → verb_told words.now ≢ Some Verb.Init → D.past result.0.disk ≡ D.past rig.disk }
+    ensures untouched { verb_told words.now ≡ Some Verb.Init → result.1 ≢ Status.Ok → result.1 ≢ Status.WriteFault → ((chunk : ℕ) → result.1 ≢ Status.DiskFault chunk) → result.0.disk ≡ rig.disk }
+    ensures stops { D.tells → verb_told words.now ≡ Some Verb.Init → Stops (D.past rig.disk) (D.past result.0.disk) (IsInitBetween (S.left script.old) (D.past rig.disk)) }
     ensures sizes { D.sizes result.0.disk ≡ D.sizes rig.disk }
     ensures unread { verb_told words.now ≡ None → (script.new ≡ script.old) × (result.0.disk ≡ rig.disk) }
     ensures shelf { result.0.shelf ≡ rig.shelf }

@@ -1,6 +1,7 @@
 //! The work of a command, but for its output.
 
 ghost use Rattle.std.specs.Prelude.{◌≡◌, ◌≢◌, ◌≤◌, ℕ, None, Some, All, IfErr, IfOk, IfSome, Ok, length, slice_index_or};
+ghost use Rattle.ol_format.specs.Formatted.{Stops};
 ghost use Rattle.ol_model.specs.Text.{IsInLineOrder};
 ghost use Rattle.ol_chunks.specs.Limits.{IsConfig};
 ghost use Rattle.ol_model.specs.History.{Ascends};
@@ -8,6 +9,7 @@ ghost use Rattle.ol_outside.specs.Disk.{seen};
 ghost use Rattle.ol_reserve.specs.Pair.{there};
 ghost use Rattle.ol_script.specs.Spelling.{IsLine};
 ghost use Rattle.ol_online.specs.Command.{EndsPrepared, EndsScript, EndsUnplayed, EndsWork, IsPlayStatus, IsPrepared, PlayedTo, archive_line_in, drive_1, history_in, status_of_play};
+ghost use Rattle.ol_online.specs.Initing.{IsInitBetween};
 ghost use Rattle.ol_online.specs.Opening.{HasDiskCause, HasStatusCause};
 ghost use Rattle.ol_online.specs.Planning.{planned};
 ghost use Rattle.ol_online.specs.Words.{verb_told};
@@ -52,6 +54,8 @@ pub(crate) fn work<D: Disk, T: Drive, S: Source>(
     ensures no_write { result.1 ≢ Status.WriteFault }
     ensures cause { HasStatusCause (D.fault_counts disk.old) (D.fault_counts disk.new) result.1 }
     ensures past { D.tells → verb_told words.now ≢ Some Verb.Init → D.past disk.new ≡ D.past disk.old }
+    ensures untouched { verb_told words.now ≡ Some Verb.Init → result.1 ≢ Status.Ok → ((chunk : ℕ) → result.1 ≢ Status.DiskFault chunk) → disk.new ≡ disk.old }
+    ensures stops { D.tells → verb_told words.now ≡ Some Verb.Init → Stops (D.past disk.old) (D.past disk.new) (IsInitBetween (S.left source.old) (D.past disk.old)) }
     ensures sizes { D.sizes disk.new ≡ D.sizes disk.old }
     ensures unread { verb_told words.now ≡ None → (source.new ≡ source.old) × (disk.new ≡ disk.old) }
     ensures drives { (k : ℕ) (d : T) → k ≢ 1 → slice_index_or drives.new.items k d ≡ slice_index_or drives.old.items k d }
