@@ -17,7 +17,8 @@ use Rattle.ol_chunks.specs.Limits.{AreInLimits, AreSpaces, IsConfig, IsSpace, ch
 use Rattle.ol_chunks.specs.Reading.{Reading, after_line, before_read, config_from, config_of, has_pages, has_place, has_room, is_new_name, line_then, lines_of, logs_read, numbers_of, nothing_read, physical_read, space_read, with_logs, with_physical, with_space, words_of, words_read}
 use Rattle.ol_chunks.specs.declared.draft.Due.TheVariants.{Before, Logs, Nothing, Spaces}
 use Rattle.ol_chunks.proofs.Chunks.{space_is}
-use Rattle.ol_chunks.proofs.Numbers.{numbers_again, own}
+use Rattle.ol_words.proofs.Decimals.{own}
+use Rattle.ol_chunks.proofs.Numbers.{numbers_again}
 use Rattle.ol_chunks.proofs.Readings.{bytes_eq_equiv}
 use Rattle.ol_chunks.proofs.TextLaws.{line_from, lines_cons, logs_text, limit_text, physical_text, spaces_text, whole_text}
 

@@ -1,126 +1,17 @@
--- Numbers in decimal, and lists of them.
-use Rattle.std.specs.Char.{digit_value, is_ascii_digit}
+-- Numbers of a line, and the words that they are.
 use Rattle.std.specs.Fmt.{decimal}
-use Rattle.std.specs.Int.{IsInRange}
-use Rattle.std.specs.List.{list_all}
-use Rattle.std.specs.Str.Parse.{digits_value}
-use Rattle.std.specs.Prelude.{Bool, List, None, Option, Some, [], cond, false, get_or, length, map, nat_le, nat_lt, refl, slice_index, take, true, ℕ, ◌&&◌, ◌++◌, ◌+◌, ◌*◌, ◌-◌, ◌<◌, ◌∷◌, ◌≡◌, ◌≤◌, ◌^◌}
-use Rattle.std.proofs.Common.{ap, append_assoc, arith, rules, subst, sym, ◌∙◌}
-use Rattle.std.proofs.lemmas.Bool.{and_from, and_parts, cond-true, le-leb, leb-true, lt-ltb, ltb-true}
-use Rattle.std.proofs.lemmas.Bool.Decides.{nat_tests}
-use Rattle.std.proofs.lemmas.Fmt.{decimal-digits_value, digits_decimal, digits_value-decimal, first_decimal}
-use Rattle.std.proofs.lemmas.Int.Digits.{digits_value_more}
-use Rattle.std.proofs.lemmas.List.Folds.{list_all_at, list_all_more}
-use Rattle.std.proofs.lemmas.Str.{digit_value_digit}
-use Rattle.std.proofs.lemmas.Str.Parse.{IsNumeralModel, digits_value-take-le, numerals_by_value}
+use Rattle.std.specs.Prelude.{List, None, Option, Some, [], map, refl, ℕ, ◌∷◌, ◌≡◌}
+use Rattle.std.proofs.Common.{ap, arith, subst, ◌∙◌}
+use Rattle.ol_words.specs.Words.{with_number}
+use Rattle.ol_words.proofs.Decimals.{IsNumber, number_again, number_is}
 use Rattle.ol_chunks.specs.Limits.{AreInLimits}
-use Rattle.ol_chunks.specs.Reading.{number_of, numbers_of, with_number}
-
--- ---- numbers of a list
-
--- numbers that were read, and then the rest
-abbrev pub behind : List ℕ → Option (List ℕ) → Option (List ℕ)
-behind numbers None = None
-behind numbers (Some more) = Some (numbers ++ more)
-
-pub behind_none : (o : Option (List ℕ)) → behind [] o ≡ o
-behind_none None = refl
-behind_none (Some more) = refl
-
--- one number more
-pub behind_more : (numbers : List ℕ) (n : ℕ) (o : Option (List ℕ)) → behind (numbers ++ n ∷ []) o ≡ behind numbers (with_number (Some n) o)
-behind_more numbers n None = refl
-behind_more numbers n (Some more) = ap (λ (l : List ℕ). Some l) (append_assoc numbers (n ∷ []) more)
-
--- ---- the digits of a number
-
-none_where : (d f v : Bool) (n : ℕ) → d ≡ false → None ≡ (cond (d && (f && v)) (Some n) None)
-none_where false f v n e = refl
-none_where true f v n e = cc
-
-none_above : (d f v : Bool) (n : ℕ) → v ≡ false → None ≡ (cond (d && (f && v)) (Some n) None)
-none_above false f v n e = refl
-none_above true false v n e = refl
-none_above true true false n e = refl
-none_above true true true n e = cc
-
-pub no_digit : (word : List ℕ) (i : ℕ) → i < length word → is_ascii_digit (get_or word i 0) ≡ false → None ≡ number_of word
-no_digit word i lt e = none_where (list_all is_ascii_digit word) (nat_lt 48 (slice_index word 0)) (nat_le (digits_value 10 word) 65535) (digits_value 10 word) (list_all_at is_ascii_digit word i 0 lt e)
-
-pub digits_more : (word : List ℕ) (i : ℕ) → i < length word → list_all is_ascii_digit (take i word) ≡ true → is_ascii_digit (get_or word i 0) ≡ true
-    → list_all is_ascii_digit (take (i + 1) word) ≡ true
-digits_more word i lt so_far e = list_all_more is_ascii_digit word i 0 lt ∙ ap (λ b. b && is_ascii_digit (get_or word i 0)) so_far ∙ e
-
-digit_is : (b : ℕ) → is_ascii_digit b ≡ true → digit_value b ≡ b - 48
-digit_is b e = let at : IsInRange 48 57 b = grind (arith, nat_tests) in omega (arith, digit_value_digit b at)
-
-pub value_more : (word : List ℕ) (i value : ℕ) → i < length word → value ≡ digits_value 10 (take i word) → is_ascii_digit (get_or word i 0) ≡ true
-    → value * 10 + (get_or word i 0 - 48) ≡ digits_value 10 (take (i + 1) word)
-value_more word i value lt so_far e = omega (arith, so_far, digit_is (get_or word i 0) e, digits_value_more 10 word i lt)
-
-pub number_above : (word : List ℕ) (i value : ℕ) → i < length word → value ≡ digits_value 10 (take i word) → is_ascii_digit (get_or word i 0) ≡ true
-    → 65535 < value * 10 + (get_or word i 0 - 48) → None ≡ number_of word
-number_above word i value lt so_far e above =
-    none_above (list_all is_ascii_digit word) (nat_lt 48 (slice_index word 0)) (nat_le (digits_value 10 word) 65535) (digits_value 10 word)
-    (let le : digits_value 10 (take (i + 1) word) ≤ digits_value 10 word = digits_value-take-le 10 word (i + 1) (omega arith) in
-    let n : 65535 < digits_value 10 word = omega (arith, le, value_more word i value lt so_far e) in
-    grind (arith, nat_tests))
-
--- ---- numbers and their text
-
--- digits and their value, in the words of std's laws on decimal text
-pub own : IsNumeralModel (λ ds. list_all is_ascii_digit ds ≡ true) (digits_value 10)
-own = numerals_by_value _ (search rules)
-
-pub record IsNumber (word : List ℕ) (n : ℕ) : Type 0 where
-  pub text : word ≡ decimal n
-  pub limits : (1 ≤ n) × (n ≤ 65535)
-
-first_digit : (word : List ℕ) → nat_lt 48 (slice_index word 0) ≡ true → (0 < length word) × (48 < get_or word 0 0)
-first_digit [] e = cc
-first_digit (b ∷ word) e = (omega arith, ltb-true 48 b e)
-
-at_least_one : (word : List ℕ) → list_all is_ascii_digit word ≡ true → 48 < get_or word 0 0 → 1 ≤ digits_value 10 word
-at_least_one [] d h = absurd (omega arith)
-at_least_one (b ∷ word) d h =
-    let le : digits_value 10 (take 1 (b ∷ word)) ≤ digits_value 10 (b ∷ word) = digits_value-take-le 10 (b ∷ word) 1 (omega arith) in
-    omega (arith, le, digit_is b ((and_parts (is_ascii_digit b) (list_all is_ascii_digit word) d).0))
-
-pub number_is : (word : List ℕ) (n : ℕ) → number_of word ≡ Some n → IsNumber word n
-number_is word n e = go (list_all is_ascii_digit word) (nat_lt 48 (slice_index word 0)) (nat_le (digits_value 10 word) 65535) refl refl refl e
-  where
-    go : (d f v : Bool) → list_all is_ascii_digit word ≡ d → nat_lt 48 (slice_index word 0) ≡ f → nat_le (digits_value 10 word) 65535 ≡ v
-        → cond (d && (f && v)) (Some (digits_value 10 word)) None ≡ Some n → IsNumber word n
-    go false f v a b c e = cc
-    go true false v a b c e = cc
-    go true true false a b c e = cc
-    go true true true a b c e =
-        let is : digits_value 10 word ≡ n = cc in
-        let le : digits_value 10 word ≤ 65535 = leb-true (digits_value 10 word) 65535 c in
-        let first = first_digit word b in
-        record {
-          text = sym (decimal-digits_value own word a first.0 (λ z. absurd (omega (arith, z, first.1))) (omega arith)) ∙ ap decimal is;
-          limits = (omega (arith, is, at_least_one word a first.1), omega arith);
-        }
-
-pub number_again : (n : ℕ) → 1 ≤ n → n ≤ 65535 → number_of (decimal n) ≡ Some n
-number_again n least most =
-    let small : n < 2 ^ 64 = omega arith in
-    let value : digits_value 10 (decimal n) ≡ n = digits_value-decimal own n small in
-    let digits : list_all is_ascii_digit (decimal n) ≡ true = digits_decimal own n small in
-    let first : nat_lt 48 (slice_index (decimal n) 0) ≡ true = lt-ltb 48 (get_or (decimal n) 0 0) (first_decimal n (omega arith) small) in
-    let limit : nat_le (digits_value 10 (decimal n)) 65535 ≡ true = le-leb (digits_value 10 (decimal n)) 65535 (omega (arith, value)) in
-    cond-true (list_all is_ascii_digit (decimal n) && (nat_lt 48 (slice_index (decimal n) 0) && nat_le (digits_value 10 (decimal n)) 65535)) (Some (digits_value 10 (decimal n))) None
-    (and_from _ _ digits (and_from _ _ first limit))
-    ∙ ap (λ (k : ℕ). Some k) value
-
--- ---- lists of numbers
+use Rattle.ol_chunks.specs.Reading.{number_of, numbers_of}
 
 pub record AreNumbers (words : List (List ℕ)) (numbers : List ℕ) : Type 0 where
   pub text : words ≡ map decimal numbers
   pub limits : AreInLimits numbers
 
-more_numbers : (word : List ℕ) (words : List (List ℕ)) (n : ℕ) (numbers : List ℕ) → IsNumber word n → AreNumbers words numbers → AreNumbers (word ∷ words) (n ∷ numbers)
+more_numbers : (word : List ℕ) (words : List (List ℕ)) (n : ℕ) (numbers : List ℕ) → IsNumber 65535 word n → AreNumbers words numbers → AreNumbers (word ∷ words) (n ∷ numbers)
 more_numbers word words n numbers a b = record { text = let p = a.text in let q = b.text in cc; limits = (a.limits, b.limits) }
 
 numbers_step : (word : List ℕ) (words : List (List ℕ)) (numbers : List ℕ) (o : Option ℕ) (p : Option (List ℕ)) → number_of word ≡ o
@@ -129,7 +20,7 @@ numbers_step word words numbers None p a b e = cc
 numbers_step word words numbers (Some n) None a b e = cc
 numbers_step word words numbers (Some n) (Some rest) a b e =
     let is : n ∷ rest ≡ numbers = cc in
-    subst (λ (l : List ℕ). AreNumbers (word ∷ words) l) is (more_numbers word words n rest (number_is word n a) (b rest refl))
+    subst (λ (l : List ℕ). AreNumbers (word ∷ words) l) is (more_numbers word words n rest (number_is 65535 word n (omega arith) a) (b rest refl))
 
 pub numbers_are : (words : List (List ℕ)) (numbers : List ℕ) → numbers_of words ≡ Some numbers → AreNumbers words numbers
 numbers_are [] numbers e = let is : [] ≡ numbers = cc in subst (λ (l : List ℕ). AreNumbers [] l) is (record { text = refl; limits = tt })
@@ -139,5 +30,5 @@ numbers_are (word ∷ words) numbers e =
 pub numbers_again : (numbers : List ℕ) → AreInLimits numbers → numbers_of (map decimal numbers) ≡ Some numbers
 numbers_again [] h = refl
 numbers_again (n ∷ numbers) h =
-    ap (λ o. with_number o (numbers_of (map decimal numbers))) (number_again n h.0.0 h.0.1)
+    ap (λ o. with_number o (numbers_of (map decimal numbers))) (number_again 65535 n (omega arith) h.0.0 h.0.1)
     ∙ ap (with_number (Some n)) (numbers_again numbers h.1)

@@ -1,11 +1,7 @@
--- The pieces of a text that stand behind a separator, if there is one.
-use Rattle.std.specs.List.{slice_split}
-use Rattle.std.specs.Prelude.{List, None, Option, Some, [], ℕ, ◌==◌}
+-- The words of a line that stand behind a blank, if there is one.
+use Rattle.std.specs.Prelude.{List, Option, ℕ}
 use denote.Ref.{Bor}
-
-abbrev pub pieces_behind : ℕ → Option (Bor (List ℕ)) → List (List ℕ)
-pieces_behind separator None = []
-pieces_behind separator (Some rest) = slice_split (λ b. b == separator) rest.now
+use Rattle.ol_words.specs.Words.{pieces_behind}
 
 -- the words of a line behind a blank
 abbrev pub words_behind : Option (Bor (List ℕ)) → List (List ℕ)

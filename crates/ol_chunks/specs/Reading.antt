@@ -1,10 +1,9 @@
 -- The configuration that a text gives, line by line.
-use Rattle.std.specs.Char.{is_ascii_digit}
-use Rattle.std.specs.List.{list_all, list_any, slice_split}
-use Rattle.std.specs.Str.Parse.{digits_value}
+use Rattle.std.specs.List.{list_any, slice_split}
 use Rattle.std.specs.Prelude.{Bool, Err, List, None, Ok, Option, Result, Some, [], bytes_eq, codes, false, if◌then◌else◌, length, nat_le, nat_lt, not, slice_index, sum, take, ℕ, ◌&&◌, ◌++◌, ◌+◌, ◌==◌, ◌∷◌, ◌||◌}
 use Rattle.ol_model.specs.Config.{Config, SpaceConfig, area_pages, is_name, space_at, space_named}
 use Rattle.ol_chunks.specs.Limits.{chunk_count, first_chunk, reserved_pages}
+use Rattle.ol_words.specs.Words.{number_up_to, numbers_up_to}
 use Rattle.ol_chunks.specs.declared.draft.Due.{Due}
 use Rattle.ol_chunks.specs.declared.draft.Due.TheVariants.{Before, Logs, Nothing, Spaces}
 
@@ -18,24 +17,13 @@ lines_of text = slice_split (λ b. b == 10) text
 abbrev pub words_of : List ℕ → List (List ℕ)
 words_of line = slice_split (λ b. b == 32) line
 
--- digits without a leading zero, of a number from 1 to 65,535
-abbrev pub is_number : List ℕ → Bool
-is_number word = list_all is_ascii_digit word && (nat_lt 48 (slice_index word 0) && nat_le (digits_value 10 word) 65535)
-
--- the number that a word is in decimal
+-- the number from 1 to 65,535 that a word is in decimal
 abbrev pub number_of : List ℕ → Option ℕ
-number_of word = if is_number word then Some (digits_value 10 word) else None
-
--- a number in front of numbers, where there are both
-abbrev pub with_number : Option ℕ → Option (List ℕ) → Option (List ℕ)
-with_number None numbers = None
-with_number (Some n) None = None
-with_number (Some n) (Some numbers) = Some (n ∷ numbers)
+number_of word = number_up_to 65535 word
 
 -- the numbers that words are, where each is one
 abbrev pub numbers_of : List (List ℕ) → Option (List ℕ)
-numbers_of [] = Some []
-numbers_of (word ∷ words) = with_number (number_of word) (numbers_of words)
+numbers_of words = numbers_up_to 65535 words
 
 -- ---- what was read
 

@@ -11,8 +11,9 @@ ghost use Rattle.ol_chunks.specs.Reading.{logs_read, nothing_read, numbers_of as
 
 use crate::layout::{Layout, Space, all_pages, count_chunks, find_space, first_of, reserved_pages};
 use crate::name::Name;
-use crate::words::{cut, numbers_of};
+use crate::words::numbers_of;
 use ol_model::NoMemory;
+use ol_words::cut;
 use std::alloc::Global;
 
 const SPACE_WORD: &[u8] = b"space";

@@ -6,7 +6,7 @@ ghost use Rattle.ol_chunks.specs.Reading.{config_of, may_end as may_end_here};
 
 use crate::draft::{Draft, Due};
 use crate::table::ChunkTable;
-use crate::words::cut_at_first;
+use ol_words::cut_at_first;
 use std::alloc::Global;
 
 /// The most bytes that a text has.

@@ -1,10 +1,9 @@
 -- The options of a command line: `--dir DIR [--chunks P0,P1,..] [--blocks N] [--volumes N] WORD..`
-use Rattle.std.specs.Char.{is_ascii_digit}
 use Rattle.std.specs.Global.{Global}
-use Rattle.std.specs.List.{list_all, slice_split}
+use Rattle.std.specs.List.{slice_split}
 use Rattle.std.specs.Option.{option_and_then, option_map}
-use Rattle.std.specs.Str.Parse.{digits_value}
-use Rattle.std.specs.Prelude.{Bool, Err, List, None, Ok, Option, Result, Some, String, [], bytes_eq, codes, false, if◌then◌else◌, length, map, nat_le, nat_lt, slice_index, string_bytes, ℕ, ◌&&◌, ◌==◌, ◌||◌, ◌∷◌, ◌≡◌}
+use Rattle.std.specs.Prelude.{Bool, Err, List, None, Ok, Option, Result, Some, String, [], bytes_eq, codes, false, if◌then◌else◌, length, map, nat_le, string_bytes, ℕ, ◌==◌, ◌||◌, ◌∷◌, ◌≡◌}
+use Rattle.ol_words.specs.Words.{number_up_to, numbers_up_to}
 use Rattle.ol_devices.specs.declared.options.OptionFault.{OptionFault}
 use Rattle.ol_devices.specs.declared.options.OptionFault.TheVariants.{BadOptions, NoMemory}
 use Rattle.ol_devices.specs.declared.options.Options.{Options}
@@ -23,24 +22,13 @@ pub record OptionLine : Type 0 where
 
 -- ---- values
 
--- digits without a leading zero, of a number from 1 to 4,294,967,295
-abbrev pub is_number : List ℕ → Bool
-is_number word = list_all is_ascii_digit word && (nat_lt 48 (slice_index word 0) && nat_le (digits_value 10 word) 4294967295)
-
--- the number that a word is in decimal
+-- the number from 1 to 4,294,967,295 that a word is in decimal
 abbrev pub number_of : List ℕ → Option ℕ
-number_of word = if is_number word then Some (digits_value 10 word) else None
-
--- a number in front of numbers, where there are both
-abbrev pub with_number : Option ℕ → Option (List ℕ) → Option (List ℕ)
-with_number None numbers = None
-with_number (Some n) None = None
-with_number (Some n) (Some numbers) = Some (n ∷ numbers)
+number_of word = number_up_to 4294967295 word
 
 -- the numbers that words are, where each is one
 abbrev pub numbers_of : List (List ℕ) → Option (List ℕ)
-numbers_of [] = Some []
-numbers_of (word ∷ words) = with_number (number_of word) (numbers_of words)
+numbers_of words = numbers_up_to 4294967295 words
 
 -- at most 32 numbers, with one comma between two
 abbrev pub chunk_list : List ℕ → Option (List ℕ)

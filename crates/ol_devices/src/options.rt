@@ -1,13 +1,13 @@
 //! The options of a command line.
 
-ghost use Rattle.std.specs.Prelude.{◌≡◌, ◌<◌, ◌==◌, ◌∷◌, IfOk, IfSome, length, position};
-ghost use Rattle.std.specs.List.{slice_split};
+ghost use Rattle.std.specs.Prelude.{◌≡◌, IfOk};
 ghost use Rattle.std.specs.Option.{option_map};
-ghost use Rattle.ol_devices.specs.OptionLine.{AnswersLine, chunk_list, is_option, is_option_next, list_option, number_of as number_of_bytes, number_option, numbers_of as numbers_of_words, options_of, texts};
-ghost use Rattle.ol_devices.specs.Pieces.{pieces_behind, with_texts, list_with_texts};
+ghost use Rattle.ol_devices.specs.OptionLine.{AnswersLine, chunk_list, is_option, is_option_next, list_option, number_option, options_of, texts};
+ghost use Rattle.ol_devices.specs.Pieces.{with_texts, list_with_texts};
 
 use crate::disk_file::CHUNKS;
 use ol_outside::NoMemory;
+use ol_words::{number, numbers};
 use std::alloc::Global;
 
 /// The blocks of a volume and the volumes of a drive, where no option gives them.
@@ -16,7 +16,7 @@ const BLOCKS: u32 = 100_000;
 const VOLUMES: u32 = 1_000;
 
 /// The greatest number that an option may have.
-const NUMBER_LIMIT: u64 = 4_294_967_295;
+const NUMBER_LIMIT: u32 = 4_294_967_295;
 
 /// The options that a command line begins with, and the words of its command.
 #[derive(Debug, Drop)]
@@ -94,7 +94,7 @@ fn number_option<'a>(name: &[u8], default: u32, words: &'a [String]) -> Option<(
         return Some((default, words));
     }
     let (value, rest) = behind.split_first()?;
-    let number = number_of(value.as_bytes())?;
+    let number = number(value.as_bytes(), NUMBER_LIMIT)?;
     Some((number, rest))
 }
 
@@ -123,65 +123,11 @@ fn list_option(alloc: Global, words: &[String]) -> Result<Option<(Vec<u32>, &[St
 fn chunk_list(alloc: Global, text: &[u8]) -> Result<Option<Vec<u32>>, NoMemory>
     ensures { IfOk result (λ numbers. option_map (λ v. v.items) numbers ≡ chunk_list text.now) }
 {
-    match numbers_of(alloc, text) {
+    match numbers(alloc, b',', Some(text), NUMBER_LIMIT) {
         Ok(Some(numbers)) if numbers.len() <= CHUNKS => Ok(Some(numbers)),
         Ok(_) => Ok(None),
         Err(refused) => Err(refused),
     }
-}
-
-// The numbers of a text, with one comma between two; None where a piece is no number.
-fn numbers_of(alloc: Global, text: &[u8]) -> Result<Option<Vec<u32>>, NoMemory>
-    ensures { IfOk result (λ numbers. option_map (λ v. v.items) numbers ≡ numbers_of_words (slice_split (λ b. b == 44) text.now)) }
-{
-    let mut numbers = Vec::new(alloc);
-    let mut rest = Some(text);
-    while let Some(pieces) = rest {
-        let (piece, behind) = cut(pieces);
-        let Some(number) = number_of(piece) else {
-            return Ok(None);
-        };
-        numbers.push(number)?;
-        rest = behind;
-    }
-    Ok(Some(numbers))
-}
-
-// The text in front of the first comma, or all of it, and what stands behind the comma.
-fn cut(text: &[u8]) -> (&[u8], Option<&[u8]>)
-    ensures pieces { slice_split (λ b. b == 44) text.now ≡ result.0.now ∷ pieces_behind result.1 }
-    ensures shorter { IfSome result.1 (λ rest. length rest.now < length text.now) }
-{
-    match comma_in(text) {
-        Some(end) => (&text[..end], Some(&text[end + 1..])),
-        None => (text, None),
-    }
-}
-
-fn comma_in(text: &[u8]) -> Option<usize>
-    ensures { result ≡ position (λ b. b == 44) text.now }
-{
-    text.iter().position(|b| *b == b',')
-}
-
-// The number from 1 to 4,294,967,295 that a word is in decimal; None where it is none or has a leading zero.
-fn number_of(word: &[u8]) -> Option<u32>
-    ensures { result ≡ number_of_bytes word.now }
-{
-    if word.is_empty() || word[0] == b'0' {
-        return None;
-    }
-    let mut value = 0;
-    for digit in word {
-        if !digit.is_ascii_digit() {
-            return None;
-        }
-        value = value * 10 + u64::from(*digit - b'0');
-        if value > NUMBER_LIMIT {
-            return None;
-        }
-    }
-    Some(value as u32)
 }
 
 // Whether the word is the name of an option.

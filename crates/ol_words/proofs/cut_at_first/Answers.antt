@@ -1,8 +1,8 @@
 use Rattle.std.proofs.Common.{◌∷◌, ℕ, List, ◌+◌, ◌==◌, ◌∙◌, ap, sym, take}
 use Rattle.std.proofs.lemmas.List.{take_rest}
 use Rattle.std.specs.List.{slice_split}
-use Rattle.ol_chunks.proofs.Pieces.{split_none, split_some}
-use Rattle.ol_chunks.proofs.words.cut_at_first.Goals as goal
+use Rattle.ol_words.proofs.Pieces.{split_none, split_some}
+use Rattle.ol_words.proofs.cut_at_first.Goals as goal
 
 pub returns-in_err-end-clause-none : goal.returns-in_err-end-clause-none
 returns-in_err-end-clause-none c =

@@ -2,11 +2,11 @@ use Rattle.std.proofs.Common.{◌≡◌, ◌≤◌, take, true}
 use Rattle.std.specs.Char.{is_ascii_digit}
 use Rattle.std.specs.List.{list_all}
 use Rattle.std.specs.Str.Parse.{digits_value}
-use Rattle.ol_devices.proofs.options.number_of.Given as goal
+use Rattle.ol_words.proofs.number.Given as goal
 
 abbrev pub invariant-loop-digit : goal.invariant-loop-digit
 invariant-loop-digit l = record {
   digits : list_all is_ascii_digit (take l.digit-index l.word) ≡ true;
   value : l.value ≡ digits_value 10 (take l.digit-index l.word);
-  limit : l.value ≤ 4294967295;
+  limit : l.value ≤ l.most;
 }
