@@ -1,5 +1,6 @@
 -- A disk that holds a newly formatted installation.
 use Rattle.std.specs.Prelude.{None, Some, suc, zero, ℕ, ◌*◌, ◌+◌, ◌<◌, ◌≡◌, ◌≢◌, ◌≤◌, ◌⊎◌}
+use Rattle.ol_chunks.specs.Limits.{chunk_count}
 use Rattle.ol_chunks.specs.Places.{chunk_pages, log_area, physical_area, place_of}
 use Rattle.ol_model.specs.Config.{Config}
 use Rattle.ol_outside.specs.Disk.{Bytes, Leaves, Past, Rest, seen}
@@ -30,6 +31,12 @@ pub record FramedByGates (past : Past) (d : Bytes) : Type 0 where
   pub origin : Bytes
   pub rest : Rest past origin
   pub same : (c p i : ℕ) → (c ≡ 0 → p < 2 → i ≡ 0 → ⊥) → d c p i ≡ origin c p i
+
+-- what a stop before might have left, but for the pages that the configuration gives to chunks of spaces
+pub record FramedBySpaces (past : Past) (c : Config) (d : Bytes) : Type 0 where
+  pub origin : Bytes
+  pub rest : Rest past origin
+  pub same : (chunk page i : ℕ) → (chunk < chunk_count c.spaces → page < chunk_pages c chunk → ⊥) → d chunk page i ≡ origin chunk page i
 
 -- nothing but the gates has changed yet, or there is no anchor
 abbrev pub IsClosing : Past → Bytes → Type 0

@@ -7,11 +7,11 @@ mod zeros;
 ghost use Rattle.std.specs.Prelude.{◌≡◌, ◌≤◌, ℕ, None, Some, IsErrOf, OnOk};
 ghost use Rattle.ol_outside.specs.Disk.{Bytes, Rest};
 ghost use Rattle.ol_reserve.specs.Pair.{IsOneOf, IsReady};
-ghost use Rattle.ol_chunks.specs.Limits.{chunk_count};
+ghost use Rattle.ol_chunks.specs.Limits.{IsConfig, chunk_count};
 ghost use Rattle.ol_model.specs.Config.{Config};
 ghost use Rattle.ol_format.specs.Causes.{HasFormatCause};
 ghost use Rattle.ol_format.specs.First.{AreLarge, IsFirstOf, IsFirstSmall, chunks_of, first_anchor};
-ghost use Rattle.ol_format.specs.Formatted.{AreZeroed, IsBetween, IsClosing, IsFormatted, Stops};
+ghost use Rattle.ol_format.specs.Formatted.{AreZeroed, FramedBySpaces, IsBetween, IsClosing, IsFormatted, Stops};
 
 use crate::first::make_first;
 use crate::zeros::{close_pair, zero_chunks};
@@ -41,7 +41,8 @@ pub fn format<D: Disk>(disk: &mut D, table: &ChunkTable) -> Result<(), FormatFau
     ensures ready { D.tells → OnOk result (IsReady (D.past disk.new) (Some (first_anchor table.now))) }
     // A stop within the call, or behind one that failed, leaves no anchor over pages that are zeroed.
     ensures stops { D.tells → Stops (D.past disk.old) (D.past disk.new) (IsBetween (D.past disk.old) table.now) }
-
+    // The temporary chunk and the pages behind those of the configuration stay as they were.
+    ensures frame { D.tells → Stops (D.past disk.old) (D.past disk.new) (FramedBySpaces (D.past disk.old) table.now) }
     ensures small { (chunk : ℕ) → IsErrOf result (FormatFault.TooSmall chunk) → IsFirstSmall (D.sizes disk.old) table.now chunk }
     ensures large { ((chunk : ℕ) → IsErrOf result (FormatFault.TooSmall chunk) → ⊥) → AreLarge (D.sizes disk.old) table.now (chunks_of table.now) }
     ensures untouched { (chunk : ℕ) → IsErrOf result (FormatFault.TooSmall chunk) → disk.new ≡ disk.old }
@@ -60,6 +61,7 @@ fn format_large<D: Disk>(disk: &mut D, table: &ChunkTable) -> Result<(), FormatF
     ensures ok { D.tells → OnOk result ((d : Bytes) → Rest (D.past disk.new) d → IsFormatted d table.now) }
     ensures ready { D.tells → OnOk result (IsReady (D.past disk.new) (Some (first_anchor table.now))) }
     ensures stops { D.tells → Stops (D.past disk.old) (D.past disk.new) (IsBetween (D.past disk.old) table.now) }
+    ensures frame { D.tells → Stops (D.past disk.old) (D.past disk.new) (FramedBySpaces (D.past disk.old) table.now) }
     ensures small { (chunk : ℕ) → IsErrOf result (FormatFault.TooSmall chunk) → ⊥ }
     ensures cause { HasFormatCause (D.fault_counts disk.old) (D.fault_counts disk.new) result }
     ensures sizes { D.sizes disk.new ≡ D.sizes disk.old }
@@ -75,8 +77,10 @@ fn format_large<D: Disk>(disk: &mut D, table: &ChunkTable) -> Result<(), FormatF
 fn clear<D: Disk>(disk: &mut D, table: &ChunkTable) -> Result<(), FormatFault>
     requires large { AreLarge (D.sizes disk.old) table.now (chunks_of table.now) }
     requires pair { 2 ≤ D.sizes disk.old 0 }
+    requires config { IsConfig table.now }
     ensures ok { D.tells → OnOk result (AreZeroed (D.past disk.new) table.now (chunk_count table.now.spaces)) }
     ensures stops { D.tells → Stops (D.past disk.old) (D.past disk.new) (IsClosing (D.past disk.old)) }
+    ensures frame { D.tells → Stops (D.past disk.old) (D.past disk.new) (FramedBySpaces (D.past disk.old) table.now) }
     ensures small { (chunk : ℕ) → IsErrOf result (FormatFault.TooSmall chunk) → ⊥ }
     ensures cause { HasFormatCause (D.fault_counts disk.old) (D.fault_counts disk.new) result }
     ensures sizes { D.sizes disk.new ≡ D.sizes disk.old }
@@ -93,6 +97,7 @@ fn write_first<D: Disk>(disk: &mut D, anchor: &Anchor) -> Result<(), FormatFault
     ensures ok { D.tells → (c : Config) → IsFirstOf c anchor.now → AreZeroed (D.past disk.old) c (chunk_count c.spaces) → OnOk result ((d : Bytes) → Rest (D.past disk.new) d → IsFormatted d c) }
     ensures ready { D.tells → (c : Config) → IsFirstOf c anchor.now → AreZeroed (D.past disk.old) c (chunk_count c.spaces) → OnOk result (IsReady (D.past disk.new) (Some (first_anchor c))) }
     ensures stops { D.tells → (c : Config) → IsFirstOf c anchor.now → AreZeroed (D.past disk.old) c (chunk_count c.spaces) → Stops (D.past disk.old) (D.past disk.new) (IsOneOf None (Some (first_anchor c))) }
+    ensures frame { D.tells → (c : Config) → IsConfig c → Stops (D.past disk.old) (D.past disk.new) (FramedBySpaces (D.past disk.old) c) }
     ensures small { (chunk : ℕ) → IsErrOf result (FormatFault.TooSmall chunk) → ⊥ }
     ensures cause { HasFormatCause (D.fault_counts disk.old) (D.fault_counts disk.new) result }
     ensures sizes { D.sizes disk.new ≡ D.sizes disk.old }

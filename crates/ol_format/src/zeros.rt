@@ -7,7 +7,7 @@ ghost use Rattle.ol_chunks.specs.Limits.{chunk_count};
 ghost use Rattle.ol_reserve.specs.Pair.{Newest};
 ghost use Rattle.ol_format.specs.Causes.{HasFormatCause};
 ghost use Rattle.ol_format.specs.First.{AreLarge, chunks_of};
-ghost use Rattle.ol_format.specs.Formatted.{AreZeroed, FramedByGates, FramedByPages, IsBlank, IsSettled, IsZero, IsZeroed, Stops, first_page};
+ghost use Rattle.ol_format.specs.Formatted.{AreZeroed, FramedByGates, FramedByPages, FramedBySpaces, IsBlank, IsSettled, IsZero, IsZeroed, Stops, first_page};
 
 use crate::FormatFault;
 use ol_chunks::ChunkTable;
@@ -49,6 +49,7 @@ pub(crate) fn zero_chunks<D: Disk>(disk: &mut D, table: &ChunkTable) -> Result<(
     requires { AreLarge (D.sizes disk.old) table.now (chunks_of table.now) }
     ensures ok { D.tells → IsBlank (D.past disk.old) → OnOk result (AreZeroed (D.past disk.new) table.now (chunk_count table.now.spaces)) }
     ensures stops { D.tells → IsBlank (D.past disk.old) → Stops (D.past disk.old) (D.past disk.new) (λ d. Newest d None) }
+    ensures frame { D.tells → Stops (D.past disk.old) (D.past disk.new) (FramedBySpaces (D.past disk.old) table.now) }
     ensures small { (chunk : ℕ) → IsErrOf result (FormatFault.TooSmall chunk) → ⊥ }
     ensures cause { HasFormatCause (D.fault_counts disk.old) (D.fault_counts disk.new) result }
     ensures sizes { D.sizes disk.new ≡ D.sizes disk.old }

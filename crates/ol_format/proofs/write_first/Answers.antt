@@ -1,3 +1,4 @@
+use Rattle.ol_format.proofs.Frames.{frame_pair}
 use Rattle.ol_format.proofs.Formatting.{failed_from, formatted_from, ready_from, stops_first}
 use Rattle.ol_format.proofs.write_first.Goals as goal
 
@@ -13,6 +14,12 @@ returns-in-Ok-clause-stops g c tells config first zeroed = stops_first _ _ confi
 
 pub returns-in-Err-clause-stops : goal.returns-in-Err-clause-stops
 returns-in-Err-clause-stops g c tells config first zeroed = stops_first _ _ config c.args.anchor.now first zeroed (c.in-Err.ensures.any_moment tells) (c.in-Err.ensures.rest tells)
+
+pub returns-in-Ok-clause-frame : goal.returns-in-Ok-clause-frame
+returns-in-Ok-clause-frame g c tells config is = frame_pair _ _ config is (c.in-Ok.ensures.frame tells) (c.in-Ok.ensures.frame_rest tells)
+
+pub returns-in-Err-clause-frame : goal.returns-in-Err-clause-frame
+returns-in-Err-clause-frame g c tells config is = frame_pair _ _ config is (c.in-Err.ensures.frame tells) (c.in-Err.ensures.frame_rest tells)
 
 pub returns-in-Err-clause-cause : goal.returns-in-Err-clause-cause
 returns-in-Err-clause-cause g c = failed_from _ _ 0 c.in-Err.field-0 c.in-Err.ensures.cause
