@@ -1,1 +1,3 @@
 mod SeatLaws
+mod TellingLaws
+mod TellingSeats
