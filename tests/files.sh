@@ -2,7 +2,7 @@
 # Runs the built program over real files: a folder is formatted, rows are archived, and what is on disk and on tape is
 # compared; then the same with files that are missing, of another kind, or full. Skipped where a tool or the program is
 # missing. `rt ci` does not run this.
-set -eu
+set -euo pipefail
 cd "$(dirname "$0")/.."
 program=$PWD/crates/ol_files/out/ol_files
 for tool in sha256sum dd cmp mktemp; do
@@ -93,7 +93,7 @@ formatted cut
     trap '' XFSZ
     ulimit -f 3
     check "a volume can't grow" 6 "$session"$'\n4 a1 tapefault 1 1\ntape fault 1\n' "$script"$'\n' --dir "$work/cut" play
-)
+) | cat # a log that this script writes to may have more
 
 formatted small
 check "a drive of two blocks" 7 "$session"$'\n4 a1 outoftape 1\nout of tape 1\n' "$script"$'\n' --dir "$work/small" --blocks 2 --volumes 1 play
