@@ -58,7 +58,9 @@ fn drive(rt: &HostRuntime, options: &Options, number: u8) -> Result<FileDrive, A
 }
 
 /// Writes the status of a command line that is none, and gives it.
-fn refuse(rt: &HostRuntime) -> Status {
+fn refuse(rt: &HostRuntime) -> Status
+    ensures { result ≡ Status.BadWords }
+{
     let mut sink = WriterSink::new(rt.stdout());
     // where it can't be written, the exit status still says it
     let _ = write_status(&mut sink, Status::BadWords);
