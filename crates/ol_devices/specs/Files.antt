@@ -1,6 +1,6 @@
 -- What contracts see of devices that are files.
 use Rattle.std.specs.Global.{Global}
-use Rattle.std.specs.Prelude.{ℕ, ◌-◌, ◌^◌, Bool, if◌then◌else◌, List, Vec, map, min, slice_index, slice_set}
+use Rattle.std.specs.Prelude.{ℕ, ◌≡◌, ◌-◌, ◌^◌, Bool, if◌then◌else◌, List, None, Option, Vec, map, min, slice_index, slice_index_or, slice_set}
 use Rattle.ol_outside.specs.Causes.{risen}
 use Rattle.ol_outside.specs.Drive.{Tape}
 
@@ -12,6 +12,10 @@ pages_at sizes c = min (slice_index sizes c) (2 ^ 32 - 1)
 abbrev pub faults_at : List ℕ → ℕ → ℕ
 faults_at counts c = slice_index counts c
 
+-- the chunk's file is not open, where those that are stand in this list
+abbrev pub IsShut : {X : Type 0} → List (Option X) → ℕ → Type 0
+IsShut files c = slice_index_or files c None ≡ None
+
 -- a call on a chunk more, which is one fault more of this chunk where it failed
 abbrev pub after_chunk_call : Bool → ℕ → List ℕ → List ℕ
 after_chunk_call failed c counts = if failed then slice_set counts c (risen (faults_at counts c)) else counts
@@ -21,12 +25,22 @@ abbrev pub after_call : Bool → ℕ → ℕ
 after_call failed count = if failed then risen count else count
 
 pub record FileDriveState : Type 0 where
+  -- the folder that has its folder
+  pub dir : List ℕ
+  -- its number
+  pub number : ℕ
   -- its volumes, of which it tells no block
   pub tape : Tape
+  -- whether its volumes could not be counted
+  pub uncounted : Bool
   -- whether a sync has failed
   pub lost : Bool
   -- how often a call has failed
   pub count : ℕ
+
+-- the drive of the same folder and number
+abbrev pub IsSameDrive : FileDriveState → FileDriveState → Type 0
+IsSameDrive old new = (new.dir ≡ old.dir) × (new.number ≡ old.number) × (new.uncounted ≡ old.uncounted)
 
 -- of each drive how many blocks each volume has
 abbrev pub block_counts : List (Vec ℕ Global) → List (List ℕ)

@@ -78,11 +78,15 @@ volumes_next dir chunks blocks = option_and_then (ended dir chunks blocks.0) (nu
 abbrev pub blocks_next : List ℕ → List ℕ × List (List ℕ) → Option OptionLine
 blocks_next dir chunks = option_and_then (volumes_next dir chunks.0) (number_option (codes "--blocks") 100000 chunks.1)
 
+-- the folder's name, which is not empty, and the words behind it
+abbrev pub folder_next : List ℕ → List (List ℕ) → Option OptionLine
+folder_next dir words = if bytes_eq dir (codes "") then None else option_and_then (blocks_next dir) (list_option words)
+
 -- what the words of a command line give, where they are of the form
 abbrev pub options_of : List (List ℕ) → Option OptionLine
 options_of [] = None
 options_of (word ∷ []) = None
-options_of (word ∷ dir ∷ words) = if bytes_eq word (codes "--dir") then option_and_then (blocks_next dir) (list_option words) else None
+options_of (word ∷ dir ∷ words) = if bytes_eq word (codes "--dir") then folder_next dir words else None
 
 -- ---- what the parser gives
 

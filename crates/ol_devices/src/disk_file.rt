@@ -1,15 +1,15 @@
 //! A disk of chunk files.
 
-ghost use Rattle.std.specs.Prelude.{◌≡◌, ◌<◌, ◌≤◌, ◌/◌, ◌+◌, ◌-◌, ◌^◌, false, get_or, if◌then◌else◌, is_err, length, min, replicate, slice_index, slice_set, true, IfOk};
+ghost use Rattle.std.specs.Prelude.{◌≡◌, ◌<◌, ◌≤◌, ◌/◌, ◌+◌, ◌-◌, ◌^◌, false, [], get_or, if◌then◌else◌, is_err, length, min, replicate, slice_index, slice_set, true, IfOk};
 ghost use Rattle.ol_outside.specs.Causes.{HasChunkCause, risen};
-ghost use Rattle.ol_devices.specs.Files.{after_chunk_call, pages_at, faults_at};
+ghost use Rattle.ol_devices.specs.Files.{IsShut, after_chunk_call, pages_at, faults_at};
 
+use crate::device_file::{DeviceFile, sync_folder};
 use crate::fault::fault;
+use crate::paths::chunk_path;
 use ol_outside::{Disk, Failed, NoMemory, PAGE_LENGTH};
-use std::fs::{File, OpenOptions};
+use std::io;
 use std::io::ErrorKind;
-use std::os::unix::fs::FileExt;
-use std::{fs, io};
 
 /// The greatest number of chunk files of a disk.
 pub const CHUNKS: usize = 32;
@@ -20,8 +20,8 @@ const PAGE_BYTES: u64 = PAGE_LENGTH as u64;
 /// A disk whose chunks are the files `chunk0`, `chunk1`, .. of a folder. It tells nothing of its bytes.
 #[derive(Drop)]
 pub struct FileDisk {
-    // The chunk files that could be opened.
-    files: Vec<Option<File>>,
+    // The chunk files that could be opened. That of chunk 0 is locked.
+    files: Vec<Option<DeviceFile>>,
     // The pages of each chunk, 0 for one that is not there.
     sizes: [u32; CHUNKS],
     // How often each chunk has failed.
@@ -31,11 +31,18 @@ pub struct FileDisk {
     moment: u64,
 }
 
+// Another command holds the lock of the disk, or it can't be asked for.
+#[derive(Drop)]
+struct LockedOut;
+
 impl FileDisk {
-    /// The disk of the chunk files in the folder `dir`. Those that are missing are made of as many zero
-    /// pages as `pages` has for them, counted from chunk 0; one that is there stays as it is. The sizes
-    /// are read once, here: a chunk has the whole pages of its file, and one whose file is missing or can't be
-    /// opened for reading and writing or made has none.
+    /// The disk of the chunk files in the folder `dir`. Those that are missing or have no byte are made of as many zero
+    /// pages as `pages` has for them, counted from chunk 0; any other stays as it is. The sizes are read once, here: a
+    /// chunk has the whole pages of its file, and one whose file is missing or can't be opened or made has none. A file
+    /// that can be read and not written is opened for reading, and each write to it fails.
+    ///
+    /// The file of chunk 0 is locked as long as the disk lives, and without it no other file is made. Where another disk
+    /// has locked it, no chunk's size is known, the most pages are told of each, and each call fails.
     ///
     /// `NoMemory` where memory for a path or for the files is refused.
     pub fn open(rt: &HostRuntime, dir: &str, pages: &[u32]) -> Result<FileDisk, NoMemory>
@@ -45,28 +52,57 @@ impl FileDisk {
     {
         let mut files = Vec::new(rt.alloc());
         let mut sizes = [0; CHUNKS];
+        let mut wanted = pages;
         for (chunk, size) in sizes.iter_mut().enumerate() {
-            let path = format!(in rt.alloc(); "{dir}/chunk{chunk}")?;
-            let opened = match open_chunk(rt, dir, &path, pages.get(chunk).copied()) {
-                Ok((file, whole)) => {
-                    *size = whole;
-                    Some(file)
-                }
-                Err(_) => None,
+            let path = chunk_path(rt, dir, chunk)?;
+            let pages = wanted.get(chunk).copied();
+            let Ok(found) = open_chunk(rt, dir, &path, pages, chunk == 0) else {
+                return Ok(FileDisk::locked_out(rt));
             };
-            files.push(opened)?;
+            let (file, whole) = match found {
+                Some((file, whole)) => (Some(file), whole),
+                None => (None, 0),
+            };
+            if chunk == 0 && file.is_none() {
+                // without the lock no other file is made
+                wanted = &[];
+            }
+            *size = whole;
+            files.push(file)?;
         }
-        Ok(FileDisk {
+        Ok(FileDisk::of(files, sizes))
+    }
+
+    // The disk of these files and sizes.
+    fn of(files: Vec<Option<DeviceFile>>, sizes: [u32; CHUNKS]) -> FileDisk
+        ensures unasked { result.moment ≡ 0 }
+        ensures calm { result.counts ≡ replicate 32 0 }
+        ensures unlost { result.lost ≡ replicate 32 false }
+        ensures given { (result.files ≡ files) × (result.sizes ≡ sizes) }
+    {
+        FileDisk {
             files,
             sizes,
             counts: [0; CHUNKS],
             lost: [false; CHUNKS],
             moment: 0,
-        })
+        }
+    }
+
+    // The disk that another command has locked. Its sizes lead each command to a call, which fails.
+    fn locked_out(rt: &HostRuntime) -> FileDisk
+        ensures unasked { result.moment ≡ 0 }
+        ensures calm { result.counts ≡ replicate 32 0 }
+        ensures unlost { result.lost ≡ replicate 32 false }
+        ensures shut { (result.files.items ≡ []) × (result.sizes ≡ replicate 32 (2 ^ 32 - 1)) }
+    {
+        FileDisk::of(Vec::new(rt.alloc()), [u32::MAX; CHUNKS])
     }
 
     // The file of a chunk.
-    fn file(&self, chunk: u8) -> io::Result<&File> {
+    fn file(&self, chunk: u8) -> io::Result<&DeviceFile>
+        ensures { IsShut self.now.files.items chunk → is_err result ≡ true }
+    {
         match self.files.get(chunk as usize) {
             Some(Some(file)) => Ok(file),
             _ => Err(ErrorKind::NotFound.into()),
@@ -102,7 +138,7 @@ impl Disk for FileDisk {
 
     /// Reads a page into `buf`.
     ///
-    /// `Failed` where the file can't be read or ends before the page does.
+    /// `Failed` where the file can't be read or ends before the page does, or where the disk is locked elsewhere.
     fn read(&mut self, chunk: u8, page: u32, buf: &mut [u8]) -> Result<(), Failed>
         requires page { page < pages_at self.old.sizes chunk }
         requires buf { length buf.old ≡ 2048 }
@@ -111,6 +147,7 @@ impl Disk for FileDisk {
         ensures cause { HasChunkCause chunk (faults_at self.old.counts) (faults_at self.new.counts) result }
 
         ensures counted { self.new.counts ≡ after_chunk_call (is_err result) chunk self.old.counts }
+        ensures shut { IsShut self.old.files.items chunk → is_err result ≡ true }
     {
         match read_page(self.file(chunk), page, buf) {
             Ok(()) => Ok(()),
@@ -120,7 +157,7 @@ impl Disk for FileDisk {
 
     /// Writes bytes into a page, from an offset on.
     ///
-    /// `Failed` where the file can't be written or takes only a part.
+    /// `Failed` where the file can't be written or takes only a part, or where the disk is locked elsewhere.
     fn write_at(&mut self, chunk: u8, page: u32, offset: u16, bytes: &[u8]) -> Result<(), Failed>
         requires page { page < pages_at self.old.sizes chunk }
         requires range { offset + length bytes.now ≤ 2048 }
@@ -129,6 +166,7 @@ impl Disk for FileDisk {
         ensures cause { HasChunkCause chunk (faults_at self.old.counts) (faults_at self.new.counts) result }
 
         ensures counted { self.new.counts ≡ after_chunk_call (is_err result) chunk self.old.counts }
+        ensures shut { IsShut self.old.files.items chunk → is_err result ≡ true }
     {
         self.moment = self.moment.saturating_add(1);
         match write_piece(self.file(chunk), page, offset, bytes) {
@@ -140,7 +178,7 @@ impl Disk for FileDisk {
     /// Makes what was written to a chunk durable.
     ///
     /// `Failed` where the file can't be synced, now or at an earlier sync: the system may have let go of
-    /// what it couldn't write, and wouldn't say so twice.
+    /// what it couldn't write, and wouldn't say so twice. Also where the disk is locked elsewhere.
     fn sync(&mut self, chunk: u8) -> Result<(), Failed>
         requires { 0 < pages_at self.old.sizes chunk }
         ensures sizes { pages_at self.new.sizes ≡ pages_at self.old.sizes }
@@ -148,6 +186,7 @@ impl Disk for FileDisk {
         ensures cause { HasChunkCause chunk (faults_at self.old.counts) (faults_at self.new.counts) result }
 
         ensures counted { self.new.counts ≡ after_chunk_call (is_err result) chunk self.old.counts }
+        ensures shut { IsShut self.old.files.items chunk → is_err result ≡ true }
         ensures lost { self.new.lost ≡ (if is_err result then slice_set self.old.lost chunk true else self.old.lost) }
         ensures never_again { get_or self.old.lost chunk false ≡ true → is_err result ≡ true }
     {
@@ -193,63 +232,78 @@ fn whole_pages(bytes: u64) -> u32
     u32::try_from(bytes / PAGE_BYTES).unwrap_or(u32::MAX)
 }
 
-// The file of a chunk and its whole pages. One that is missing is made of `pages` pages, where it is to be.
+// The file of a chunk and its whole pages, None where it can't be opened or made. The first chunk's is locked before it
+// is looked at, so that of two commands that make it only one goes on.
 fn open_chunk(
     rt: &HostRuntime,
     dir: &str,
     path: &str,
-    pages: Option<u32>,
-) -> io::Result<(File, u32)> {
-    let file = match OpenOptions::new().read(true).write(true).open(rt, path) {
-        Ok(file) => file,
-        Err(error) => match pages {
-            Some(pages) if error.kind() == ErrorKind::NotFound => make_chunk(rt, dir, path, pages)?,
-            _ => return Err(error),
-        },
+    wanted: Option<u32>,
+    is_first: bool,
+) -> Result<Option<(DeviceFile, u32)>, LockedOut> {
+    let Ok(file) = DeviceFile::open(rt, path, wanted.is_some()) else {
+        return Ok(None);
     };
-    let whole = whole_pages(file.metadata()?.len());
-    Ok((file, whole))
+    if is_first && file.lock().is_err() {
+        return Err(LockedOut);
+    }
+    match filled(rt, dir, &file, wanted) {
+        Ok(whole) => Ok(Some((file, whole))),
+        Err(_) => Ok(None),
+    }
 }
 
-// Makes a chunk file of so many zero pages, which is durable with its name. Where it can't be, no file stays.
-fn make_chunk(rt: &HostRuntime, dir: &str, path: &str, pages: u32) -> io::Result<File> {
-    let file = File::create_new(rt, path)?;
-    match fill_chunk(rt, dir, &file, pages) {
-        Ok(()) => Ok(file),
+// The whole pages of a chunk's file. One of no bytes first gets the pages that are wanted.
+fn filled(rt: &HostRuntime, dir: &str, file: &DeviceFile, wanted: Option<u32>) -> io::Result<u32> {
+    match wanted {
+        Some(pages) if file.length()? == 0 => fill(rt, dir, file, pages)?,
+        _ => {}
+    }
+    Ok(whole_pages(file.length()?))
+}
+
+// Gives an empty chunk file so many zero pages, durable with its name. Where it can't, the file stays empty.
+fn fill(rt: &HostRuntime, dir: &str, file: &DeviceFile, pages: u32) -> io::Result<()> {
+    match fill_synced(rt, dir, file, pages) {
+        Ok(()) => Ok(()),
         Err(error) => {
             // the error that came first is the one to tell
-            let _ = fs::remove_file(rt, path);
+            let _ = file.set_length(0);
             Err(error)
         }
     }
 }
 
-fn fill_chunk(rt: &HostRuntime, dir: &str, file: &File, pages: u32) -> io::Result<()> {
-    file.set_len(u64::from(pages) * PAGE_BYTES)?;
+fn fill_synced(rt: &HostRuntime, dir: &str, file: &DeviceFile, pages: u32) -> io::Result<()> {
+    file.set_length(u64::from(pages) * PAGE_BYTES)?;
     file.sync_all()?;
     sync_folder(rt, dir)
 }
 
-/// Makes the names in a folder durable.
-pub(crate) fn sync_folder(rt: &HostRuntime, folder: &str) -> io::Result<()> {
-    File::open(rt, folder)?.sync_all()
-}
-
-fn read_page(file: io::Result<&File>, page: u32, buf: &mut [u8]) -> io::Result<()>
-    ensures { length buf.new ≡ length buf.old }
+fn read_page(file: io::Result<&DeviceFile>, page: u32, buf: &mut [u8]) -> io::Result<()>
+    ensures length { length buf.new ≡ length buf.old }
+    ensures shut { is_err file.entry ≡ true → is_err result ≡ true }
 {
-    file?.read_exact_at(buf, u64::from(page) * PAGE_BYTES)
+    file?.read(buf, u64::from(page) * PAGE_BYTES)
 }
 
-fn write_piece(file: io::Result<&File>, page: u32, offset: u16, bytes: &[u8]) -> io::Result<()> {
-    file?.write_all_at(bytes, u64::from(page) * PAGE_BYTES + u64::from(offset))
+fn write_piece(
+    file: io::Result<&DeviceFile>,
+    page: u32,
+    offset: u16,
+    bytes: &[u8],
+) -> io::Result<()>
+    ensures { is_err file.entry ≡ true → is_err result ≡ true }
+{
+    file?.write(bytes, u64::from(page) * PAGE_BYTES + u64::from(offset))
 }
 
-fn sync_file(file: io::Result<&File>, lost: bool) -> io::Result<()>
-    ensures { lost ≡ true → is_err result ≡ true }
+fn sync_file(file: io::Result<&DeviceFile>, lost: bool) -> io::Result<()>
+    ensures lost { lost ≡ true → is_err result ≡ true }
+    ensures shut { is_err file.entry ≡ true → is_err result ≡ true }
 {
     if lost {
         return Err(ErrorKind::Other.into());
     }
-    file?.sync_data()
+    file?.sync()
 }

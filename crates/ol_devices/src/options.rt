@@ -45,7 +45,7 @@ pub enum OptionFault {
 
 /// Reads the options `--dir DIR [--chunks P0,P1,..] [--blocks N] [--volumes N]` at the head of a command
 /// line, without the program's name. They stand in this order, each at most once and with its value in the
-/// next word. `N` and each of the 1 to 32 `P` are decimal numbers from 1 to 4,294,967,295 without leading
+/// next word. `DIR` is not empty. `N` and each of the 1 to 32 `P` are decimal numbers from 1 to 4,294,967,295 without leading
 /// zeros. A volume takes 100,000 blocks and a drive 1,000 volumes where the line doesn't say.
 ///
 /// `BadOptions` exactly where the words are off this form, also where the word behind the options is the
@@ -57,6 +57,10 @@ pub fn parse_options(alloc: Global, words: &[String]) -> Result<Options<'_>, Opt
         return Err(OptionFault::BadOptions);
     };
     if option.as_bytes() != b"--dir".as_slice() {
+        return Err(OptionFault::BadOptions);
+    }
+    // `/chunk0` would be a file of the root folder
+    if dir.as_bytes() == b"".as_slice() {
         return Err(OptionFault::BadOptions);
     }
     let (chunks, behind) = match list_option(alloc, behind) {

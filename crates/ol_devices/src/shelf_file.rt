@@ -1,17 +1,17 @@
 //! A shelf of volume files.
 
-ghost use Rattle.std.specs.Prelude.{◌≡◌, ◌<◌, [], IfOk, is_err, length};
+ghost use Rattle.std.specs.Prelude.{◌≡◌, ◌<◌, [], IfOk, IfSome, None, false, is_err, length, string_bytes, true};
 ghost use Rattle.std.proofs.Common.{get_or};
 ghost use Rattle.ol_outside.specs.Causes.{HasCause};
 ghost use Rattle.ol_outside.specs.Shelf.{HasBlock, HasVolume, block_count, volume_count};
 ghost use Rattle.ol_devices.specs.Files.{after_call, block_counts};
 
+use crate::device_file::DeviceFile;
 use crate::fault::fault;
-use crate::tape_file::{BLOCK_BYTES, volume_path, volumes_there};
+use crate::paths::volume_path;
+use crate::tape_file::{BLOCK_BYTES, volumes_there};
 use ol_outside::{BLOCK_LENGTH, DRIVES, Failed, NoMemory, Shelf};
-use std::fs::File;
 use std::io;
-use std::os::unix::fs::FileExt;
 
 /// A shelf of the volumes that are files of a folder, which tells nothing of its blocks.
 #[derive(Drop)]
@@ -21,27 +21,35 @@ pub struct FileShelf {
     dir: String,
     // Of each drive the number of blocks of each volume.
     drives: Vec<Vec<u32>>,
+    // Of each drive whether its volumes could not be counted.
+    uncounted: [bool; DRIVES as usize],
     failed_calls: u64,
 }
 
 impl FileShelf {
     /// The shelf of the files `tape/D/1`, `tape/D/2`, .. of a folder, for the drives D from 0 to 4. Of each
     /// drive it has the volumes that are there without a gap, each of the whole blocks of its file. They are
-    /// counted once, here.
+    /// counted once, here. Where one of a drive can't be examined, and it is not that it isn't there, each call that asks
+    /// for their number fails.
     ///
     /// `NoMemory` where memory for a path or for the counts is refused.
     pub fn open(rt: &HostRuntime, dir: &str) -> Result<FileShelf, NoMemory>
         ensures calm { IfOk result (λ shelf. shelf.failed_calls ≡ 0) }
         ensures drives { IfOk result (λ shelf. length shelf.drives.items ≡ 5) }
+        ensures place { IfOk result (λ shelf. string_bytes shelf.dir ≡ dir.now) }
     {
         let mut drives = Vec::new(rt.alloc());
+        let mut uncounted = [false; DRIVES as usize];
         for drive in 0..DRIVES {
-            drives.push(volumes_there(rt, dir, drive)?)?;
+            let there = volumes_there(rt, dir, drive)?;
+            uncounted[drive as usize] = !there.is_counted;
+            drives.push(there.blocks)?;
         }
         Ok(FileShelf {
             rt: *rt,
             dir: String::from_str(rt.alloc(), dir)?,
             drives,
+            uncounted,
             failed_calls: 0,
         })
     }
@@ -62,7 +70,7 @@ impl Shelf for FileShelf {
 
     /// The number of volumes of a drive.
     ///
-    /// `Failed` where a `u32` doesn't count them.
+    /// `Failed` where they could not be counted, or a `u32` doesn't count them.
     fn volumes(&mut self, drive: u8) -> Result<u32, Failed>
         requires { drive < 5 }
         ensures count { IfOk result (λ n. n ≡ volume_count (block_counts self.old.drives.items) drive) }
@@ -70,10 +78,14 @@ impl Shelf for FileShelf {
         ensures cause { HasCause self.old.failed_calls self.new.failed_calls result }
 
         ensures counted { self.new.failed_calls ≡ after_call (is_err result) self.old.failed_calls }
+        ensures uncounted { get_or self.old.uncounted drive false ≡ true → is_err result ≡ true }
     {
-        match u32::try_from(volumes_of(&self.drives, drive).len()) {
-            Ok(count) => Ok(count),
-            Err(_) => Err(fault(&mut self.failed_calls)),
+        match count_of(
+            volumes_of(&self.drives, drive),
+            self.uncounted[drive as usize],
+        ) {
+            Some(count) => Ok(count),
+            None => Err(fault(&mut self.failed_calls)),
         }
     }
 
@@ -120,6 +132,17 @@ impl Shelf for FileShelf {
     }
 }
 
+// The number of volumes; None where they could not be counted, or a `u32` doesn't count them.
+fn count_of(volumes: &[u32], uncounted: bool) -> Option<u32>
+    ensures count { IfSome result (λ count. count ≡ length volumes.now) }
+    ensures uncounted { uncounted ≡ true → result ≡ None }
+{
+    if uncounted {
+        return None;
+    }
+    u32::try_from(volumes.len()).ok()
+}
+
 // The numbers of blocks of the volumes of a drive.
 fn volumes_of(drives: &[Vec<u32>], drive: u8) -> &[u32]
     ensures { result.now ≡ get_or (block_counts drives.now) drive [] }
@@ -139,6 +162,6 @@ fn read_block(
     buf: &mut [u8; BLOCK_LENGTH],
 ) -> io::Result<()> {
     let path = volume_path(rt, dir, drive, volume)?;
-    let file = File::open(rt, &path)?;
-    file.read_exact_at(&mut buf[..], u64::from(block) * BLOCK_BYTES)
+    let file = DeviceFile::open_to_read(rt, &path)?;
+    file.read(&mut buf[..], u64::from(block) * BLOCK_BYTES)
 }

@@ -1,19 +1,18 @@
 //! A tape drive whose volumes are files.
 
-ghost use Rattle.std.specs.Prelude.{◌≡◌, ◌<◌, ◌≤◌, ◌/◌, ◌-◌, ◌^◌, None, false, is_err, min, replicate, true, IfOk};
+ghost use Rattle.std.specs.Prelude.{◌≡◌, ◌<◌, ◌≤◌, ◌/◌, ◌-◌, ◌^◌, None, false, is_err, length, min, replicate, string_bytes, true, IfOk};
 ghost use Rattle.ol_outside.specs.Causes.{HasCause, Rose, risen};
 ghost use Rattle.ol_outside.specs.Drive.{Mounts, Syncs, Writes, spoilt};
 ghost use Rattle.ol_outside.specs.declared.drive.Mounted.TheVariants.{Failed as MountFailed};
 ghost use Rattle.ol_outside.specs.declared.drive.Wrote.TheVariants.{Failed as WriteFailed};
-ghost use Rattle.ol_devices.specs.Files.{FileDriveState, after_call};
+ghost use Rattle.ol_devices.specs.Files.{FileDriveState, IsSameDrive, after_call};
 
-use crate::disk_file::sync_folder;
+use crate::device_file::{DeviceFile, sync_folder};
 use crate::fault::fault;
+use crate::paths::{folder_path, tapes_path, volume_path};
 use ol_outside::{BLOCK_LENGTH, Drive, Failed, Mounted, NoMemory, Wrote};
-use std::fs::File;
 use std::io::ErrorKind;
 use std::marker::Model;
-use std::os::unix::fs::FileExt;
 use std::{fs, io};
 
 /// The bytes of a block, as a distance in a file.
@@ -36,14 +35,16 @@ pub struct FileDrive {
     // How many blocks the mounted volume still takes.
     room: u32,
     // The mounted volume, and behind it those that were mounted since the last sync.
-    volumes: Vec<File>,
+    volumes: Vec<DeviceFile>,
+    // Whether the volumes that are there could not be counted.
+    uncounted: bool,
     // Whether a sync has failed.
     lost: bool,
     failed_calls: u64,
 }
 
 impl Model for FileDrive {
-    ghost use Rattle.std.specs.Prelude.{◌<◌, ◌≤◌, ◌+◌, ◌^◌, None, replicate};
+    ghost use Rattle.std.specs.Prelude.{◌<◌, ◌≤◌, ◌+◌, ◌^◌, None, replicate, string_bytes};
     ghost use Rattle.ol_devices.specs.Files.{FileDriveState};
 
     ghost Value = { FileDriveState };
@@ -56,6 +57,9 @@ impl Model for FileDrive {
         volumes = None;
         synced = 0;
       };
+      dir = string_bytes d.dir;
+      number = d.number;
+      uncounted = d.uncounted;
       lost = d.lost;
       count = d.failed_calls;
     } };
@@ -67,7 +71,8 @@ impl Model for FileDrive {
 impl FileDrive {
     /// The drive of this number in the folder `dir`. It mounts `volumes` further volumes of `blocks`
     /// blocks each, numbered after those that are there without a gap, as far as a `u32` numbers them.
-    /// Nothing is made before a volume is mounted.
+    /// Nothing is made before a volume is mounted. Where one can't be examined, and it is not that it isn't there, they
+    /// can't be counted, and each mount fails.
     ///
     /// `NoMemory` where memory for a path is refused.
     pub fn new(
@@ -80,11 +85,12 @@ impl FileDrive {
         ensures unmounted { IfOk result (λ drive. drive.tape.room ≡ 0) }
         ensures volumes { IfOk result (λ drive. drive.tape.rooms ≡ replicate (min volumes (2 ^ 32 - 1 - drive.tape.mounted)) blocks) }
         ensures untold { IfOk result (λ drive. drive.tape.volumes ≡ None) }
+        ensures place { IfOk result (λ drive. (drive.dir ≡ dir.now) × (drive.number ≡ number)) }
         ensures calm { IfOk result (λ drive. drive.count ≡ 0) }
         ensures unlost { IfOk result (λ drive. drive.lost ≡ false) }
     {
         let there = volumes_there(rt, dir, number)?;
-        let last = u32::try_from(there.len()).unwrap_or(u32::MAX);
+        let last = u32::try_from(there.blocks.len()).unwrap_or(u32::MAX);
         Ok(FileDrive {
             rt: *rt,
             dir: String::from_str(rt.alloc(), dir)?,
@@ -94,6 +100,7 @@ impl FileDrive {
             last,
             room: 0,
             volumes: Vec::new(rt.alloc()),
+            uncounted: !there.is_counted,
             lost: false,
             failed_calls: 0,
         })
@@ -107,8 +114,8 @@ impl Drive for FileDrive {
 
     /// Mounts the next volume, and makes its file, which must not be there.
     ///
-    /// `NoMore` where none is left. `Failed` where the folder or the file can't be made or memory is
-    /// refused; the number then stays for the next mount.
+    /// `NoMore` where none is left. `Failed` where the volumes can't be counted, the folder or the file can't be made or
+    /// memory is refused; the number then stays for the next mount.
     fn mount(&mut self) -> Mounted
         requires { self.old.tape.room ≡ 0 }
         ensures gives { Mounts self.old.tape result self.new.tape }
@@ -118,6 +125,8 @@ impl Drive for FileDrive {
 
         ensures counted { result ≡ MountFailed → self.new.count ≡ risen self.old.count }
         ensures lost { self.new.lost ≡ self.old.lost }
+        ensures place { IsSameDrive self.old self.new }
+        ensures uncounted { self.old.uncounted ≡ true → 0 < length self.old.tape.rooms → result ≡ MountFailed }
     {
         if self.left == 0 {
             return Mounted::NoMore;
@@ -128,6 +137,7 @@ impl Drive for FileDrive {
             &self.dir,
             self.number,
             self.last + 1,
+            self.uncounted,
             &mut self.volumes,
         ) {
             Ok(()) => {
@@ -156,6 +166,7 @@ impl Drive for FileDrive {
         ensures failed { result ≡ WriteFailed → self.new.tape ≡ spoilt self.old.tape }
         ensures counted { result ≡ WriteFailed → self.new.count ≡ risen self.old.count }
         ensures lost { self.new.lost ≡ self.old.lost }
+        ensures place { IsSameDrive self.old self.new }
     {
         if self.room == 0 {
             return Wrote::EndOfVolume;
@@ -184,6 +195,7 @@ impl Drive for FileDrive {
         ensures counted { self.new.count ≡ after_call (is_err result) self.old.count }
         ensures lost { self.new.lost ≡ is_err result }
         ensures never_again { self.old.lost ≡ true → is_err result ≡ true }
+        ensures place { IsSameDrive self.old self.new }
     {
         match sync_volumes(&self.rt, &self.dir, self.number, &self.volumes, self.lost) {
             Ok(()) => {
@@ -210,16 +222,6 @@ impl Drive for FileDrive {
     }
 }
 
-/// The file of a volume.
-pub(crate) fn volume_path(
-    rt: &HostRuntime,
-    dir: &str,
-    drive: u8,
-    volume: u32,
-) -> Result<String, NoMemory> {
-    format!(in rt.alloc(); "{dir}/tape/{drive}/{volume}")
-}
-
 /// The whole blocks of a file of so many bytes, as far as a `u32` counts.
 fn whole_blocks(bytes: u64) -> u32
     ensures { result ≡ min (bytes / 2144) (2 ^ 32 - 1) }
@@ -227,19 +229,39 @@ fn whole_blocks(bytes: u64) -> u32
     u32::try_from(bytes / BLOCK_BYTES).unwrap_or(u32::MAX)
 }
 
-/// The whole blocks of each volume of a drive, of those that are there without a gap from 1 on. What is there
-/// and is no file has none.
-pub(crate) fn volumes_there(rt: &HostRuntime, dir: &str, drive: u8) -> Result<Vec<u32>, NoMemory> {
-    let mut volumes = Vec::new(rt.alloc());
+/// The volumes of a drive that are there.
+#[derive(Drop)]
+pub(crate) struct Volumes {
+    /// The whole blocks of each, from 1 on without a gap.
+    pub(crate) blocks: Vec<u32>,
+    /// Whether no other follows, and not that the next one can't be examined.
+    pub(crate) is_counted: bool,
+}
+
+/// The volumes of a drive that are there without a gap from 1 on. What is there and is no file has no block.
+pub(crate) fn volumes_there(rt: &HostRuntime, dir: &str, drive: u8) -> Result<Volumes, NoMemory> {
+    let mut blocks = Vec::new(rt.alloc());
     for volume in 1..u32::MAX {
         let path = volume_path(rt, dir, drive, volume)?;
-        let Ok(found) = fs::metadata(rt, &path) else {
-            break;
-        };
-        let bytes = if found.is_file() { found.len() } else { 0 };
-        volumes.push(whole_blocks(bytes))?;
+        match blocks_at(rt, &path) {
+            Ok(count) => blocks.push(count)?,
+            Err(error) => {
+                let is_counted = error.kind() == ErrorKind::NotFound;
+                return Ok(Volumes { blocks, is_counted });
+            }
+        }
     }
-    Ok(volumes)
+    Ok(Volumes {
+        blocks,
+        is_counted: true,
+    })
+}
+
+// The whole blocks of the file at a path.
+fn blocks_at(rt: &HostRuntime, path: &str) -> io::Result<u32> {
+    let found = fs::metadata(rt, path)?;
+    let bytes = if found.is_file() { found.len() } else { 0 };
+    Ok(whole_blocks(bytes))
 }
 
 // Makes the file of a volume, in its folder, and puts it in front.
@@ -248,28 +270,34 @@ fn make_volume(
     dir: &str,
     drive: u8,
     volume: u32,
-    volumes: &mut Vec<File>,
-) -> io::Result<()> {
-    let folder = format!(in rt.alloc(); "{dir}/tape/{drive}")?;
+    uncounted: bool,
+    volumes: &mut Vec<DeviceFile>,
+) -> io::Result<()>
+    ensures { uncounted ≡ true → is_err result ≡ true }
+{
+    if uncounted {
+        return Err(ErrorKind::Other.into());
+    }
+    let folder = folder_path(rt, dir, drive)?;
     let path = volume_path(rt, dir, drive, volume)?;
     volumes.try_reserve(1)?;
     fs::create_dir_all(rt, &folder)?;
-    let file = File::create_new(rt, &path)?;
+    let file = DeviceFile::create_new(rt, &path)?;
     volumes.insert(0, file)?;
     Ok(())
 }
 
 // Writes a block behind so many others of the volume in front.
-fn append(volumes: &[File], count: u32, block: &[u8; BLOCK_LENGTH]) -> io::Result<()> {
+fn append(volumes: &[DeviceFile], count: u32, block: &[u8; BLOCK_LENGTH]) -> io::Result<()> {
     let Some(file) = volumes.first() else {
         return Err(ErrorKind::NotFound.into());
     };
     let at = u64::from(count) * BLOCK_BYTES;
-    match file.write_all_at(block, at) {
+    match file.write(block, at) {
         Ok(()) => Ok(()),
         Err(error) => {
             // a rest of a block is none, so the volume reads the same where this fails
-            let _ = file.set_len(at);
+            let _ = file.set_length(at);
             Err(error)
         }
     }
@@ -280,7 +308,7 @@ fn sync_volumes(
     rt: &HostRuntime,
     dir: &str,
     drive: u8,
-    volumes: &[File],
+    volumes: &[DeviceFile],
     lost: bool,
 ) -> io::Result<()>
     ensures { lost ≡ true → is_err result ≡ true }
@@ -292,9 +320,9 @@ fn sync_volumes(
         return Ok(());
     }
     for file in volumes {
-        file.sync_data()?;
+        file.sync()?;
     }
-    sync_folder(rt, &format!(in rt.alloc(); "{dir}/tape/{drive}")?)?;
-    sync_folder(rt, &format!(in rt.alloc(); "{dir}/tape")?)?;
+    sync_folder(rt, &folder_path(rt, dir, drive)?)?;
+    sync_folder(rt, &tapes_path(rt, dir)?)?;
     sync_folder(rt, dir)
 }

@@ -1,10 +1,13 @@
 //! The program: a command over chunk files, volume files, standard input and standard output.
 #![tactic(auto)]
 
-ghost use Rattle.std.specs.Prelude.{◌≡◌, All, IfOk, length};
+ghost use Rattle.std.specs.Prelude.{◌≡◌, ◌∷◌, ◌-◌, ◌^◌, [], All, IfOk, length, map, min, replicate};
+ghost use Rattle.std.specs.Process.{exit_status};
+ghost use Rattle.ol_online.specs.Status.{code_of};
 
 use ol_devices::{
-    FileDisk, FileDrive, FileShelf, OptionFault, Options, ReaderSource, WriterSink, parse_options,
+    FileDisk, FileDrive, FileShelf, OptionFault, Options, ReaderSource, WriterSink, hold_streams,
+    parse_options,
 };
 use ol_online::{Rig, Status, Words, command, write_status};
 use std::alloc::{AllocError, Global};
@@ -39,6 +42,8 @@ fn words_of(alloc: Global, given: &[String]) -> Result<Words, AllocError> {
 fn five_drives(rt: &HostRuntime, options: &Options) -> Result<Vec<FileDrive>, AllocError>
     ensures five { IfOk result (λ drives. length drives.items ≡ 5) }
     ensures unmounted { IfOk result (λ drives. All (λ drive. drive.tape.room ≡ 0) drives.items) }
+    ensures numbers { IfOk result (λ drives. map (λ drive. drive.number) drives.items ≡ 0 ∷ 1 ∷ 2 ∷ 3 ∷ 4 ∷ []) }
+    ensures folder { IfOk result (λ drives. All (λ drive. drive.dir ≡ options.now.dir.now) drives.items) }
 {
     let drives = [
         drive(rt, options, 0)?,
@@ -52,7 +57,10 @@ fn five_drives(rt: &HostRuntime, options: &Options) -> Result<Vec<FileDrive>, Al
 
 /// The drive of this number.
 fn drive(rt: &HostRuntime, options: &Options, number: u8) -> Result<FileDrive, AllocError>
-    ensures { IfOk result (λ drive. drive.tape.room ≡ 0) }
+    ensures unmounted { IfOk result (λ drive. drive.tape.room ≡ 0) }
+    ensures number { IfOk result (λ drive. drive.number ≡ number) }
+    ensures folder { IfOk result (λ drive. drive.dir ≡ options.now.dir.now) }
+    ensures volumes { IfOk result (λ drive. drive.tape.rooms ≡ replicate (min options.now.volumes (2 ^ 32 - 1 - drive.tape.mounted)) options.now.blocks) }
 {
     FileDrive::new(rt, options.dir, number, options.blocks, options.volumes)
 }
@@ -110,13 +118,21 @@ fn run(rt: &HostRuntime) -> Result<Status, AllocError> {
     }
 }
 
+/// The exit status that tells a status.
+fn exit_code(status: Status) -> ExitCode
+    ensures { exit_status result ≡ code_of status }
+{
+    ExitCode::from(status.code())
+}
+
 fn main(rt: HostRuntime) -> ExitCode {
+    let _held = hold_streams(&rt);
     match run(&rt) {
-        Ok(status) => ExitCode::from(status.code()),
+        Ok(status) => exit_code(status),
         Err(AllocError) => {
             // where it can't be written, the exit status still says it
             let _ = println!(rt; "no memory");
-            ExitCode::from(Status::NoMemory.code())
+            exit_code(Status::NoMemory)
         }
     }
 }
