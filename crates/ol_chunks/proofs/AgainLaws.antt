@@ -12,7 +12,7 @@ use Rattle.std.proofs.lemmas.List.Splits.{slice_split_at, slice_split_none}
 use Rattle.std.proofs.lemmas.List.Sums.{position_or_len_is, sum_by-append, sum_by-cons}
 use Rattle.std.proofs.lemmas.Map.Keys.{IsDistinct-head, IsDistinct-tail, apart_from_distinct}
 use Rattle.std.proofs.lemmas.Slice.Eq.{bytes_eq-Decides}
-use Rattle.ol_model.specs.Config.{Config, SpaceConfig, area_pages, begins_small, config_text, is_digit, is_name, is_small_letter, number_words, space_at, space_line, space_named, unnamed}
+use Rattle.ol_values.specs.Config.{Config, SpaceConfig, area_pages, begins_small, config_text, is_digit, is_name, is_small_letter, number_words, space_at, space_line, space_named, unnamed}
 use Rattle.ol_chunks.specs.Limits.{AreInLimits, AreSpaces, IsConfig, IsSpace, chunk_count, first_chunk, names_of, reserved_pages}
 use Rattle.ol_chunks.specs.Reading.{Reading, after_line, before_read, config_from, config_of, has_pages, has_place, has_room, is_new_name, line_then, lines_of, logs_read, numbers_of, nothing_read, physical_read, space_read, with_logs, with_physical, with_space, words_of, words_read}
 use Rattle.ol_chunks.specs.declared.draft.Due.TheVariants.{Before, Logs, Nothing, Spaces}

@@ -7,7 +7,7 @@ use Rattle.std.proofs.lemmas.List.Concat.{get_or-flat_map, length-flat_map}
 use Rattle.std.proofs.lemmas.List.Sums.{sum_by-cons, sum_by_more_le}
 use Rattle.std.proofs.Math.ListN.{get_or-append}
 use Rattle.std.proofs.Math.Seq.{get_or-append_seam}
-use Rattle.ol_model.specs.Config.{Config, SpaceConfig, area_pages, space_at, unnamed}
+use Rattle.ol_values.specs.Config.{Config, SpaceConfig, area_pages, space_at, unnamed}
 use Rattle.ol_chunks.specs.Limits.{AreInLimits, AreSpaces, IsConfig, IsSpace, chunk_count, first_chunk, reserved_pages}
 use Rattle.ol_chunks.specs.Places.{chunk_pages, chunk_sizes, first_number, place_among}
 

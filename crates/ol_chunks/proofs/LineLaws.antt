@@ -2,7 +2,7 @@
 use Rattle.std.specs.Prelude.{Bool, List, None, Option, Some, [], bytes_eq, codes, false, if◌then◌else◌, length, nat_le, refl, true, ℕ, ◌&&◌, ◌∷◌, ◌≡◌, ◌⊎◌}
 use Rattle.std.proofs.Common.{inl, inr}
 use Rattle.std.proofs.lemmas.Slice.Eq.{bytes_eq-Decides}
-use Rattle.ol_model.specs.Config.{Config, space_named}
+use Rattle.ol_values.specs.Config.{Config, space_named}
 use Rattle.ol_chunks.specs.Reading.{Reading, before_read, has_pages, has_place, has_room, is_new_name, logs_read, numbers_of, physical_read, space_read, with_limit, with_logs, with_physical, with_space, words_read}
 use Rattle.ol_chunks.specs.declared.draft.Due.{Due}
 use Rattle.ol_chunks.specs.declared.draft.Due.TheVariants.{Before, Logs, Nothing, Spaces}

@@ -4,7 +4,7 @@ use Rattle.std.proofs.Common.{ap, arith, inl, inr, sym, ◌∙◌}
 use Rattle.std.proofs.lemmas.Bool.{cases_lt, cases_order, cond-false, cond-true, eq-eqb, le-ltb, lt-ltb, ltb-false, ltb-true}
 use Rattle.std.proofs.lemmas.List.{get_or_past}
 use Rattle.std.proofs.lemmas.List.Sums.{sum_by-cons}
-use Rattle.ol_model.specs.Config.{Config, SpaceConfig, area_pages, data_pages, space_at, unnamed}
+use Rattle.ol_values.specs.Config.{Config, SpaceConfig, area_pages, data_pages, space_at, unnamed}
 use Rattle.ol_chunks.specs.Limits.{IsConfig, chunk_count, reserved_pages}
 use Rattle.ol_chunks.specs.Places.{LiesIn, first_number, holder_from, holder_of, log_area, physical_area, place_among, place_of}
 use Rattle.ol_chunks.proofs.Chunks.{IsPlace, has_chunk, place_is}

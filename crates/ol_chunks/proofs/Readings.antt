@@ -11,7 +11,7 @@ use Rattle.std.proofs.lemmas.Slice.Eq.{bytes_eq-Decides}
 use Rattle.std.proofs.lemmas.List.Quantifiers.{position-Some}
 use Rattle.std.proofs.Math.Seq.{get_or-append_seam}
 use Rattle.std.specs.Cmp.{IsEquivalence}
-use Rattle.ol_model.specs.Config.{Config, SpaceConfig, is_name, space_at, space_named, unnamed}
+use Rattle.ol_values.specs.Config.{Config, SpaceConfig, is_name, space_at, space_named, unnamed}
 use Rattle.ol_chunks.specs.Limits.{AreInLimits, AreSpaces, HasRoom, IsConfig, IsSpace, chunk_count, first_chunk, names_of, reserved_pages}
 use Rattle.ol_chunks.specs.Reading.{Reading, after_line, has_pages, has_place, has_room, is_new_name, nothing_read, with_limit, with_logs, with_physical, with_space, words_of}
 use Rattle.ol_chunks.specs.declared.draft.Due.{Due}

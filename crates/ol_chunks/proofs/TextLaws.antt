@@ -7,7 +7,7 @@ use Rattle.std.proofs.lemmas.Bool.{ltb-false}
 use Rattle.std.proofs.lemmas.Grind.{flat_map-append}
 use Rattle.std.proofs.lemmas.List.{append-nil, take_all, take_min}
 use Rattle.std.proofs.lemmas.List.Splits.{join_with_byte-slice_split}
-use Rattle.ol_model.specs.Config.{Config, SpaceConfig, config_text, number_words, space_at, space_line}
+use Rattle.ol_values.specs.Config.{Config, SpaceConfig, config_text, number_words, space_at, space_line}
 use Rattle.ol_chunks.specs.Limits.{IsConfig}
 use Rattle.ol_chunks.specs.Reading.{Reading, after_line, config_from, config_of, line_then, lines_of, may_end, nothing_read, numbers_of, words_of}
 use Rattle.ol_chunks.specs.declared.draft.Due.{Due}

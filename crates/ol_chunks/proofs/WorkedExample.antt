@@ -1,10 +1,20 @@
 -- A worked example: the text of a configuration, what it gives, and where its pages lie.
 use Rattle.std.specs.Prelude.{Err, List, None, Ok, Option, Some, [], codes, refl, ℕ, ◌++◌, ◌≡◌, ◌∷◌}
-use Rattle.ol_model.specs.Config.{data_pages}
-use Rattle.ol_model.proofs.WorkedExample.{config}
+use Rattle.ol_values.specs.Config.{Config, data_pages}
 use Rattle.ol_chunks.specs.Places.{holder_of, image_area, log_area, physical_area, place_of}
 use Rattle.ol_chunks.specs.Reading.{config_of}
 use Rattle.ol_chunks.specs.declared.table.Area.{Area}
+
+abbrev config : Config
+config = record {
+  spaces = record { name = codes "root"; chunks = 100 ∷ [] } ∷ record { name = codes "data1"; chunks = 8 ∷ [] } ∷ [];
+  physical_space = 0;
+  physical_entries = 8;
+  log_space = 0;
+  log_files = 3;
+  log_file_pages = 20;
+  image_limit = 2;
+}
 
 abbrev line : List ℕ → List ℕ → List ℕ
 line text rest = text ++ (10 ∷ rest)

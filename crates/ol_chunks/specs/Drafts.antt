@@ -1,6 +1,6 @@
 -- What the values of a table stand for.
 use Rattle.std.specs.Prelude.{Bool, None, Option, Some, if◌then◌else◌, ◌≡◌}
-use Rattle.ol_model.specs.Config.{Config}
+use Rattle.ol_values.specs.Config.{Config}
 use Rattle.ol_chunks.specs.Reading.{Reading}
 use Rattle.ol_chunks.specs.declared.draft.Draft.{Draft}
 use Rattle.ol_chunks.specs.declared.layout.Layout.{Layout}

@@ -1,7 +1,7 @@
 -- The configurations that an installation may have, whatever their text.
 use Rattle.std.specs.List.{AllByRecursion, IsDistinct, sum_by}
 use Rattle.std.specs.Prelude.{List, [], bytes_eq, codes, if◌then◌else◌, length, map, slice_index, sum, true, ℕ, ◌+◌, ◌<◌, ◌==◌, ◌∷◌, ◌≡◌, ◌≤◌}
-use Rattle.ol_model.specs.Config.{Config, SpaceConfig, area_pages, is_name, space_at}
+use Rattle.ol_values.specs.Config.{Config, SpaceConfig, area_pages, is_name, space_at}
 
 -- the reserved pages at the front of a space's first chunk: 12 in the first space, none in others
 abbrev pub reserved_pages : ℕ → ℕ

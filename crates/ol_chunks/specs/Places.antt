@@ -1,7 +1,7 @@
 -- Where the pages of a configuration lie in its chunks. Chunks are numbered from 0 over all spaces, and the temporary chunk follows.
 use Rattle.std.specs.List.{flat_map}
 use Rattle.std.specs.Prelude.{Bool, List, None, Option, Some, [], if◌then◌else◌, length, nat_lt, slice_index, take, ℕ, ◌*◌, ◌++◌, ◌+◌, ◌-◌, ◌<◌, ◌==◌, ◌||◌, ◌∷◌, ◌≡◌, ◌≤◌}
-use Rattle.ol_model.specs.Config.{Config, SpaceConfig, area_pages, space_at}
+use Rattle.ol_values.specs.Config.{Config, SpaceConfig, area_pages, space_at}
 use Rattle.ol_chunks.specs.Limits.{chunk_count, reserved_pages}
 use Rattle.ol_chunks.specs.declared.table.Area.{Area}
 

@@ -1,7 +1,7 @@
 -- The configuration that a text gives, line by line.
 use Rattle.std.specs.List.{list_any, slice_split}
 use Rattle.std.specs.Prelude.{Bool, Err, List, None, Ok, Option, Result, Some, [], bytes_eq, codes, false, if◌then◌else◌, length, nat_le, nat_lt, not, slice_index, sum, take, ℕ, ◌&&◌, ◌++◌, ◌+◌, ◌==◌, ◌∷◌, ◌||◌}
-use Rattle.ol_model.specs.Config.{Config, SpaceConfig, area_pages, is_name, space_at, space_named}
+use Rattle.ol_values.specs.Config.{Config, SpaceConfig, area_pages, is_name, space_at, space_named}
 use Rattle.ol_chunks.specs.Limits.{chunk_count, first_chunk, reserved_pages}
 use Rattle.ol_words.specs.Words.{number_up_to, numbers_up_to}
 use Rattle.ol_chunks.specs.declared.draft.Due.{Due}

@@ -2,7 +2,7 @@
 
 ghost use Rattle.std.specs.Prelude.{◌≡◌, ◌≤◌, ◌∷◌, IfOk, bytes_eq, length};
 ghost use Rattle.std.specs.List.{list_any};
-ghost use Rattle.ol_model.specs.Config.{SpaceConfig, space_named};
+ghost use Rattle.ol_values.specs.Config.{SpaceConfig, space_named};
 ghost use Rattle.ol_chunks.specs.Drafts.{Reads, config_in, reading_in};
 ghost use Rattle.ol_chunks.specs.Limits.{chunk_count};
 ghost use Rattle.ol_chunks.specs.Pieces.{words_behind};
@@ -12,7 +12,7 @@ ghost use Rattle.ol_chunks.specs.Reading.{logs_read, nothing_read, numbers_of as
 use crate::layout::{Layout, Space, all_pages, count_chunks, find_space, first_of, reserved_pages};
 use crate::name::Name;
 use crate::words::numbers_of;
-use ol_model::NoMemory;
+use ol_values::NoMemory;
 use ol_words::cut;
 use std::alloc::Global;
 

@@ -1,7 +1,7 @@
 //! What holds of texts and places, whoever reads or asks for them.
 
 ghost use Rattle.std.specs.Prelude.{◌≡◌, ◌≤◌, ◌<◌, ◌↔◌, IsSome, Ok, Some, List, ℕ, length};
-ghost use Rattle.ol_model.specs.Config.{Config, config_text, data_pages};
+ghost use Rattle.ol_values.specs.Config.{Config, config_text, data_pages};
 ghost use Rattle.ol_chunks.specs.Limits.{IsConfig};
 ghost use Rattle.ol_chunks.specs.Places.{LiesIn, holder_of, log_area, physical_area, place_of};
 ghost use Rattle.ol_chunks.specs.Reading.{config_of};

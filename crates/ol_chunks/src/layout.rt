@@ -2,7 +2,7 @@
 
 ghost use Rattle.std.specs.List.{flat_map};
 ghost use Rattle.std.specs.Prelude.{◌≡◌, ◌≤◌, ◌∷◌, ◌++◌, [], length, position, bytes_eq, slice_index, sum, IfSome, if◌then◌else◌, ◌==◌, ◌*◌, ◌+◌, ◌<◌};
-ghost use Rattle.ol_model.specs.Config.{SpaceConfig, area_pages as area_pages_in};
+ghost use Rattle.ol_values.specs.Config.{SpaceConfig, area_pages as area_pages_in};
 ghost use Rattle.ol_chunks.specs.Drafts.{config_in};
 ghost use Rattle.ol_chunks.specs.Limits.{chunk_count, reserved_pages as reserved_pages_of};
 ghost use Rattle.ol_chunks.specs.Places.{first_number as first_number_in, holder_from, place_among as place_among_chunks};
@@ -22,7 +22,7 @@ pub(crate) struct Space {
 }
 
 impl Model for Space {
-    ghost use Rattle.ol_model.specs.Config.{SpaceConfig};
+    ghost use Rattle.ol_values.specs.Config.{SpaceConfig};
 
     ghost Value = { SpaceConfig };
 

@@ -3,9 +3,9 @@
 ghost use Rattle.std.specs.Prelude.{◌≡◌, ◌||◌, true};
 ghost use Rattle.std.specs.List.{list_all};
 ghost use Rattle.std.specs.Option.{SomeIff};
-ghost use Rattle.ol_model.specs.Config.{begins_small as bytes_begin_small, is_digit as is_digit_byte, is_name as is_name_bytes, is_small_letter as is_small_letter_byte};
+ghost use Rattle.ol_values.specs.Config.{begins_small as bytes_begin_small, is_digit as is_digit_byte, is_name as is_name_bytes, is_small_letter as is_small_letter_byte};
 
-use ol_model::{LABEL_LIMIT, Label};
+use ol_values::{LABEL_LIMIT, Label};
 use std::marker::Model;
 
 /// The name of a space: a small letter, and then at most 7 small letters or digits. Contracts
@@ -17,7 +17,7 @@ pub struct Name {
 
 impl Model for Name {
     ghost use Rattle.std.specs.Prelude.{List, ℕ, ◌≡◌, true};
-    ghost use Rattle.ol_model.specs.Config.{is_name};
+    ghost use Rattle.ol_values.specs.Config.{is_name};
 
     ghost Value = { List ℕ };
 

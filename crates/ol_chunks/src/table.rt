@@ -1,7 +1,7 @@
 //! The configuration as a table of chunks.
 
 ghost use Rattle.std.specs.Prelude.{◌≡◌, ◌≤◌, ◌<◌, ◌+◌, ◌*◌, ◌++◌, IfSome, drop, length};
-ghost use Rattle.ol_model.specs.Config.{config_text, data_pages, space_at, space_named};
+ghost use Rattle.ol_values.specs.Config.{config_text, data_pages, space_at, space_named};
 ghost use Rattle.ol_chunks.specs.Drafts.{config_in};
 ghost use Rattle.ol_chunks.specs.Limits.{IsConfig, chunk_count};
 ghost use Rattle.ol_chunks.specs.Places.{chunk_pages, holder_of, image_area, is_critical, log_area, physical_area, place_of};
@@ -35,7 +35,7 @@ pub struct ChunkTable {
 
 impl Model for ChunkTable {
     ghost use Rattle.std.specs.Prelude.{◌≡◌, ◌≤◌, length};
-    ghost use Rattle.ol_model.specs.Config.{Config, config_text};
+    ghost use Rattle.ol_values.specs.Config.{Config, config_text};
 
     ghost Value = { Config };
 

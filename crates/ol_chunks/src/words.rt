@@ -6,7 +6,7 @@ ghost use Rattle.ol_chunks.specs.Limits.{AreInLimits};
 ghost use Rattle.ol_chunks.specs.Pieces.{words_behind};
 ghost use Rattle.ol_chunks.specs.Reading.{numbers_of as numbers_of_words};
 
-use ol_model::NoMemory;
+use ol_values::NoMemory;
 use ol_words::numbers;
 use std::alloc::Global;
 

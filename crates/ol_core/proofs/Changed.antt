@@ -5,12 +5,13 @@ use Rattle.std.proofs.Math.ListN.{length-set}
 use Rattle.std.proofs.lemmas.Bool.{eqb-true}
 use Rattle.std.proofs.lemmas.Bool.Decides.{nat_tests}
 use Rattle.std.proofs.lemmas.List.{get_or-set_other, get_or-set_same}
-use Rattle.ol_model.specs.declared.record.Record.{Record}
-use Rattle.ol_model.specs.declared.record.Record.TheVariants.{Change}
-use Rattle.ol_model.specs.declared.row.Row.{Row}
-use Rattle.ol_model.specs.Image.{IsPage, page_bytes, with_slot}
-use Rattle.ol_model.specs.Journal.{Page, page_at, row_at, same_place, stamp_at, touches}
-use Rattle.ol_model.proofs.JournalLaws.{page_at-changed, page_at-untouched, row_at-push, stamp_at-push}
+use Rattle.ol_values.specs.declared.record.Record.{Record}
+use Rattle.ol_values.specs.declared.record.Record.TheVariants.{Change}
+use Rattle.ol_values.specs.declared.row.Row.{Row}
+use Rattle.ol_values.specs.Image.{IsPage, page_bytes, with_slot}
+use Rattle.ol_values.specs.Pages.{Page}
+use Rattle.ol_rules.specs.Journal.{page_at, row_at, same_place, stamp_at, touches}
+use Rattle.ol_laws.proofs.JournalLaws.{page_at-changed, page_at-untouched, row_at-push, stamp_at-push}
 use Rattle.ol_page.proofs.Slots.{with_slot_page}
 use Rattle.ol_core.specs.Filled.{Filled, IsFilled, blank_image, slot_at}
 use Rattle.ol_core.proofs.Held.{filled_still, held}

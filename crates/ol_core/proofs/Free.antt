@@ -3,11 +3,11 @@ use Rattle.std.specs.List.{range_with_len}
 use Rattle.std.specs.Prelude.{Bool, List, None, Some, false, find, is_none, map, nat_le, suc, true, zero, ℕ, ◌*◌, ◌+◌, ◌<◌, ◌∷◌, ◌≡◌, ◌≤◌, refl}
 use Rattle.std.proofs.Common.{ap, arith, ◌∙◌}
 use Rattle.std.proofs.lemmas.Bool.Decides.{nat_tests}
-use Rattle.ol_model.specs.declared.record.Record.{Record}
-use Rattle.ol_model.specs.declared.record.Rid.{Rid}
-use Rattle.ol_model.specs.Config.{Config, data_pages}
-use Rattle.ol_model.specs.Journal.{row_at}
-use Rattle.ol_model.specs.Machine.{first_free}
+use Rattle.ol_values.specs.declared.record.Record.{Record}
+use Rattle.ol_values.specs.declared.record.Rid.{Rid}
+use Rattle.ol_values.specs.Config.{Config, data_pages}
+use Rattle.ol_rules.specs.Journal.{row_at}
+use Rattle.ol_core.specs.Machine.{first_free}
 use Rattle.ol_core.specs.Filled.{slot_at}
 
 find_first : (space : ℕ) (test : Rid → Bool) (a n bound : ℕ) → ((i : ℕ) → test (slot_at space i) ≡ nat_le bound i) → a ≤ bound → bound < a + n → find test (map (slot_at space) (range_with_len a n)) ≡ Some (slot_at space bound)

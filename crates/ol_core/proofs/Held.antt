@@ -2,12 +2,13 @@
 use Rattle.std.specs.Prelude.{List, Option, [], false, is_none, length, nat_lt, replicate, slice_index_or, suc, zero, ℕ, ◌++◌, ◌∷◌, ◌≡◌, refl}
 use Rattle.std.proofs.Common.{ap, arith, length-append, subst, sym, ◌∙◌}
 use Rattle.std.proofs.lemmas.Bool.Decides.{nat_tests}
-use Rattle.ol_model.specs.declared.record.Record.{Record}
-use Rattle.ol_model.specs.declared.row.Row.{Row}
-use Rattle.ol_model.specs.Config.{Config, data_pages}
-use Rattle.ol_model.specs.Image.{IsPage, page_bytes}
-use Rattle.ol_model.specs.Journal.{blank, page_at, page_from, row_after, row_at, touches}
-use Rattle.ol_model.proofs.JournalLaws.{page_at-untouched, row_at-push, stamp_at-push}
+use Rattle.ol_values.specs.declared.record.Record.{Record}
+use Rattle.ol_values.specs.declared.row.Row.{Row}
+use Rattle.ol_values.specs.Config.{Config, data_pages}
+use Rattle.ol_values.specs.Image.{IsPage, page_bytes}
+use Rattle.ol_values.specs.Pages.{blank}
+use Rattle.ol_rules.specs.Journal.{page_at, page_from, row_after, row_at, touches}
+use Rattle.ol_laws.proofs.JournalLaws.{page_at-untouched, row_at-push, stamp_at-push}
 use Rattle.ol_page.proofs.Slots.{blank_bytes, blank_page, length-page_bytes}
 use Rattle.ol_core.specs.Filled.{AreFilled, Filled, IsFilled, blank_image, filled_at, image_at, no_rows, slot_at}
 

@@ -5,14 +5,14 @@ use Rattle.std.specs.Option.{option_map}
 use Rattle.std.proofs.Common.{ap, arith, eq-eqb, length-append, subst, sym, ◌∙◌}
 use Rattle.std.proofs.lemmas.List.{length-replicate}
 use Rattle.std.proofs.lemmas.List.Sums.{fold-append}
-use Rattle.ol_model.specs.declared.history.Entry.{Entry}
-use Rattle.ol_model.specs.declared.record.Record.{Record}
-use Rattle.ol_model.specs.declared.record.Record.TheVariants.{Begin as BeginRecord, Commit as CommitRecord}
-use Rattle.ol_model.specs.declared.record.Rid.{Rid}
-use Rattle.ol_model.specs.declared.row.Row.{Row}
-use Rattle.ol_model.specs.Config.{Config, data_pages}
-use Rattle.ol_model.specs.Journal.{row_after, touches}
-use Rattle.ol_model.specs.Transactions.{Txn, at_txn, begun, open_at, txns_after, with_change, without_txn}
+use Rattle.ol_values.specs.declared.history.Entry.{Entry}
+use Rattle.ol_values.specs.declared.record.Record.{Record}
+use Rattle.ol_values.specs.declared.record.Record.TheVariants.{Begin as BeginRecord, Commit as CommitRecord}
+use Rattle.ol_values.specs.declared.record.Rid.{Rid}
+use Rattle.ol_values.specs.declared.row.Row.{Row}
+use Rattle.ol_values.specs.Config.{Config, data_pages}
+use Rattle.ol_rules.specs.Journal.{row_after, touches}
+use Rattle.ol_rules.specs.Transactions.{Txn, at_txn, begun, open_at, txns_after, with_change, without_txn}
 use Rattle.ol_chunks.specs.Limits.{IsConfig}
 use Rattle.ol_core.specs.declared.running.Running.{Running}
 use Rattle.ol_core.specs.Core.{IsKept, archive_in}

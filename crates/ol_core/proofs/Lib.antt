@@ -1,3 +1,7 @@
+pub mod HistoryLaws
+pub mod TapeLaws
+pub mod TextLaws
+pub mod WorkedExample
 pub mod Steps
 pub mod Free
 pub mod Held

@@ -8,9 +8,9 @@ use Rattle.std.proofs.lemmas.Bool.{eqb-true}
 use Rattle.std.proofs.lemmas.List.{get_or-set_other, get_or-set_same}
 use Rattle.std.proofs.lemmas.List.Quantifiers.{position-Some}
 use Rattle.std.proofs.lemmas.Slice.Eq.{bytes_eq-Decides}
-use Rattle.ol_model.specs.Archivers.{cons_space, saved_of, spaces_named}
-use Rattle.ol_model.specs.Config.{Config, SpaceConfig, is_name, space_at, space_named, unnamed}
-use Rattle.ol_model.specs.Saveset.{Saved}
+use Rattle.ol_core.specs.Archivers.{cons_space, saved_of, spaces_named}
+use Rattle.ol_values.specs.Config.{Config, SpaceConfig, is_name, space_at, space_named, unnamed}
+use Rattle.ol_values.specs.Blocks.{Saved}
 use Rattle.ol_chunks.specs.Limits.{IsConfig}
 use Rattle.ol_chunks.proofs.Chunks.{space_is}
 use Rattle.ol_core.specs.Filled.{is_marked, marked, no_marks, saved_in}

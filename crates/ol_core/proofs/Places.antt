@@ -4,16 +4,17 @@ use Rattle.std.specs.Prelude.{Bool, IfSome, List, None, Option, Some, [], drop, 
 use Rattle.std.proofs.Common.{ap, arith, subst, sym, ◌∙◌}
 use Rattle.std.proofs.lemmas.Bool.Decides.{nat_tests}
 use Rattle.std.proofs.lemmas.List.{length-drop, take_all}
-use Rattle.ol_model.specs.declared.event.Reply.{Reply}
-use Rattle.ol_model.specs.declared.event.Reply.TheVariants.{AllTaken, Archived, PageIs, PagesLeft}
-use Rattle.ol_model.specs.declared.history.Entry.{Entry}
-use Rattle.ol_model.specs.declared.record.Record.{Record}
-use Rattle.ol_model.specs.declared.record.Rid.{Rid}
-use Rattle.ol_model.specs.Config.{Config, data_pages}
-use Rattle.ol_model.specs.Journal.{stamp_at}
-use Rattle.ol_model.specs.Archivers.{end_turn, end_with, take_page, take_turn}
-use Rattle.ol_model.specs.Machine.{Archive, Machine, left_of, pages_of, with_archive}
-use Rattle.ol_model.specs.Saveset.{Saved, changed_pages, places}
+use Rattle.ol_values.specs.declared.event.Reply.{Reply}
+use Rattle.ol_values.specs.declared.event.Reply.TheVariants.{AllTaken, Archived, PageIs, PagesLeft}
+use Rattle.ol_values.specs.declared.history.Entry.{Entry}
+use Rattle.ol_values.specs.declared.record.Record.{Record}
+use Rattle.ol_values.specs.declared.record.Rid.{Rid}
+use Rattle.ol_values.specs.Config.{Config, data_pages}
+use Rattle.ol_rules.specs.Journal.{stamp_at}
+use Rattle.ol_core.specs.Archivers.{end_turn, end_with, take_page, take_turn}
+use Rattle.ol_core.specs.Machine.{Archive, Machine, left_of, pages_of, with_archive}
+use Rattle.ol_values.specs.Blocks.{Saved}
+use Rattle.ol_rules.specs.Saveset.{changed_pages, places}
 use Rattle.ol_core.specs.declared.running.Running.{Running}
 use Rattle.ol_core.specs.Core.{IsKept, IsStill, IsWithin, archive_in, machine_in}
 use Rattle.ol_core.specs.Filled.{AreFilled, Filled, IsFilled, filled_at, first_place, pages_used, saved_in, used_from, used_in}

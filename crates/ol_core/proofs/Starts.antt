@@ -2,16 +2,17 @@
 use Rattle.std.specs.Prelude.{List, None, Option, Some, [], false, is_some, length, option_to_list, true, unwrap_or, ℕ, ◌+◌, ◌∷◌, ◌≡◌, refl}
 use Rattle.std.proofs.Common.{ap, arith, sym, ◌∙◌}
 use Rattle.std.proofs.lemmas.List.{take_all}
-use Rattle.ol_model.specs.declared.event.Reply.{Reply}
-use Rattle.ol_model.specs.declared.event.Reply.TheVariants.{Started}
-use Rattle.ol_model.specs.declared.history.Entry.{Entry}
-use Rattle.ol_model.specs.declared.record.Record.{Record}
-use Rattle.ol_model.specs.declared.record.Rid.{Rid}
-use Rattle.ol_model.specs.Archivers.{saved_of, spaces_named, start_turn, start_with}
-use Rattle.ol_model.specs.Config.{Config}
-use Rattle.ol_model.specs.Machine.{Archive, Machine, pages_of, with_archive}
-use Rattle.ol_model.specs.Saveset.{Saved, places}
-use Rattle.ol_model.specs.Transactions.{Txn, low_at, low_of, open_at}
+use Rattle.ol_values.specs.declared.event.Reply.{Reply}
+use Rattle.ol_values.specs.declared.event.Reply.TheVariants.{Started}
+use Rattle.ol_values.specs.declared.history.Entry.{Entry}
+use Rattle.ol_values.specs.declared.record.Record.{Record}
+use Rattle.ol_values.specs.declared.record.Rid.{Rid}
+use Rattle.ol_core.specs.Archivers.{saved_of, spaces_named, start_turn, start_with}
+use Rattle.ol_values.specs.Config.{Config}
+use Rattle.ol_core.specs.Machine.{Archive, Machine, pages_of, with_archive}
+use Rattle.ol_values.specs.Blocks.{Saved}
+use Rattle.ol_rules.specs.Saveset.{places}
+use Rattle.ol_rules.specs.Transactions.{Txn, low_at, low_of, open_at}
 use Rattle.ol_core.specs.declared.running.Running.{Running}
 use Rattle.ol_core.specs.Core.{IsKept, archive_in, machine_in}
 use Rattle.ol_core.specs.Filled.{Filled, marked, no_marks, saved_in, used_from}

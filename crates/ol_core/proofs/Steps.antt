@@ -4,7 +4,7 @@ use Rattle.std.proofs.Common.{ap, arith, eq-eqb, subst, sym, ◌∙◌}
 use Rattle.std.proofs.lemmas.Bool.{eqb-true}
 use Rattle.std.proofs.lemmas.Bool.Decides.{nat_tests}
 use Rattle.std.proofs.lemmas.List.{get_or-set_other, get_or-set_same, get_or_past}
-use Rattle.ol_model.specs.Config.{Config, SpaceConfig, data_pages, space_at, unnamed}
+use Rattle.ol_values.specs.Config.{Config, SpaceConfig, data_pages, space_at, unnamed}
 use Rattle.ol_chunks.specs.Limits.{IsConfig}
 use Rattle.ol_chunks.proofs.Chunks.{few_pages}
 use Rattle.ol_core.specs.Filled.{Filled, filled_at, no_rows}

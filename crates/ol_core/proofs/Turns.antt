@@ -2,23 +2,23 @@
 use Rattle.std.specs.Option.{option_map}
 use Rattle.std.specs.Prelude.{Bool, List, None, Option, Some, [], drop, false, is_none, is_some, length, nat_le, slice_set, unwrap_or, ℕ, ◌*◌, ◌++◌, ◌+◌, ◌-◌, ◌<◌, ◌∷◌, ◌≡◌, ◌≤◌}
 use Rattle.std.proofs.Common.{ap, refl, subst, sym, ◌∙◌}
-use Rattle.ol_model.specs.declared.event.Event.{Event}
-use Rattle.ol_model.specs.declared.event.Event.TheVariants.{ArchiveEnd, ArchiveStart, ArchiveTurn, Insert as InsertTurn}
-use Rattle.ol_model.specs.declared.event.Reply.{Reply}
-use Rattle.ol_model.specs.declared.event.Reply.TheVariants.{AllTaken, Archived, At, NoSpace, PageIs, PagesLeft, SpaceFull, Started}
-use Rattle.ol_model.specs.declared.history.Actor.{Actor}
-use Rattle.ol_model.specs.declared.history.Actor.TheVariants.{Archiver, Session}
-use Rattle.ol_model.specs.declared.history.By.{By}
-use Rattle.ol_model.specs.declared.history.Entry.{Entry}
-use Rattle.ol_model.specs.declared.record.Record.{Record}
-use Rattle.ol_model.specs.declared.record.Rid.{Rid}
-use Rattle.ol_model.specs.declared.row.Row.{Row}
-use Rattle.ol_model.specs.Archivers.{spaces_named, start_with}
-use Rattle.ol_model.specs.Config.{Config, data_pages, space_named}
-use Rattle.ol_model.specs.Journal.{row_at}
-use Rattle.ol_model.specs.Machine.{Machine}
-use Rattle.ol_model.specs.Sessions.{insert_at, insert_into, insert_turn}
-use Rattle.ol_model.specs.Turns.{given_by, turn}
+use Rattle.ol_values.specs.declared.event.Event.{Event}
+use Rattle.ol_values.specs.declared.event.Event.TheVariants.{ArchiveEnd, ArchiveStart, ArchiveTurn, Insert as InsertTurn}
+use Rattle.ol_values.specs.declared.event.Reply.{Reply}
+use Rattle.ol_values.specs.declared.event.Reply.TheVariants.{AllTaken, Archived, At, NoSpace, PageIs, PagesLeft, SpaceFull, Started}
+use Rattle.ol_values.specs.declared.history.Actor.{Actor}
+use Rattle.ol_values.specs.declared.history.Actor.TheVariants.{Archiver, Session}
+use Rattle.ol_values.specs.declared.history.By.{By}
+use Rattle.ol_values.specs.declared.history.Entry.{Entry}
+use Rattle.ol_values.specs.declared.record.Record.{Record}
+use Rattle.ol_values.specs.declared.record.Rid.{Rid}
+use Rattle.ol_values.specs.declared.row.Row.{Row}
+use Rattle.ol_core.specs.Archivers.{spaces_named, start_with}
+use Rattle.ol_values.specs.Config.{Config, data_pages, space_named}
+use Rattle.ol_rules.specs.Journal.{row_at}
+use Rattle.ol_core.specs.Machine.{Machine}
+use Rattle.ol_core.specs.Sessions.{insert_at, insert_into, insert_turn}
+use Rattle.ol_core.specs.Turns.{given_by, turn}
 use Rattle.ol_core.specs.declared.running.Running.{Running}
 use Rattle.ol_core.specs.Core.{IsKept, Seen, Takes, archive_in, entry_of, machine_in}
 use Rattle.ol_core.specs.Filled.{Filled, filled_at, first_place, marked, no_marks, slot_at, used_from}

@@ -1,17 +1,17 @@
 -- What contracts see of the engine, and what it keeps true.
 use Rattle.std.specs.Prelude.{List, None, Option, Some, [], length, map, option_to_list, replicate, ℕ, ◌++◌, ◌+◌, ◌<◌, ◌∷◌, ◌≡◌, ◌≤◌}
 use Rattle.std.specs.Option.{option_map}
-use Rattle.ol_model.specs.declared.event.Event.{Event}
-use Rattle.ol_model.specs.declared.event.Reply.{Reply}
-use Rattle.ol_model.specs.declared.event.Reply.TheVariants.{PageIs, TapeFault}
-use Rattle.ol_model.specs.declared.history.By.{By}
-use Rattle.ol_model.specs.declared.history.Entry.{Entry}
-use Rattle.ol_model.specs.declared.record.Record.{Record}
-use Rattle.ol_model.specs.declared.record.Rid.{Rid}
-use Rattle.ol_model.specs.Config.{Config, data_pages}
-use Rattle.ol_model.specs.Machine.{Archive, Machine, formatted, no_seat, pages_of}
-use Rattle.ol_model.specs.Transactions.{Txn, open_at}
-use Rattle.ol_model.specs.Turns.{given_by, turn}
+use Rattle.ol_values.specs.declared.event.Event.{Event}
+use Rattle.ol_values.specs.declared.event.Reply.{Reply}
+use Rattle.ol_values.specs.declared.event.Reply.TheVariants.{PageIs, TapeFault}
+use Rattle.ol_values.specs.declared.history.By.{By}
+use Rattle.ol_values.specs.declared.history.Entry.{Entry}
+use Rattle.ol_values.specs.declared.record.Record.{Record}
+use Rattle.ol_values.specs.declared.record.Rid.{Rid}
+use Rattle.ol_values.specs.Config.{Config, data_pages}
+use Rattle.ol_core.specs.Machine.{Archive, Machine, formatted, no_seat, pages_of}
+use Rattle.ol_rules.specs.Transactions.{Txn, open_at}
+use Rattle.ol_core.specs.Turns.{given_by, turn}
 use Rattle.ol_chunks.specs.Limits.{IsConfig}
 use Rattle.ol_core.specs.declared.running.Running.{Running}
 use Rattle.ol_core.specs.Filled.{AreFilled, Filled, saved_in, used_from}

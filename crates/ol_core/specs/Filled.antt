@@ -1,12 +1,13 @@
 -- The pages of the spaces as the engine holds them: those that rows lie on, as images. Rows fill the slots of a space in order.
 use Rattle.std.specs.List.{flat_map, range_with_len}
 use Rattle.std.specs.Prelude.{Bool, List, None, Option, Some, [], false, filter, fold, is_none, length, map, nat_le, nat_lt, replicate, slice_index_or, slice_set, true, ℕ, ◌%◌, ◌*◌, ◌+◌, ◌-◌, ◌/◌, ◌∷◌, ◌≡◌, ◌≤◌}
-use Rattle.ol_model.specs.declared.record.Record.{Record}
-use Rattle.ol_model.specs.declared.record.Rid.{Rid}
-use Rattle.ol_model.specs.Config.{Config, data_pages}
-use Rattle.ol_model.specs.Image.{IsPage, page_bytes}
-use Rattle.ol_model.specs.Journal.{page_at, rid_of, row_at, stamp_at}
-use Rattle.ol_model.specs.Saveset.{Saved}
+use Rattle.ol_values.specs.declared.record.Record.{Record}
+use Rattle.ol_values.specs.declared.record.Rid.{Rid}
+use Rattle.ol_values.specs.Config.{Config, data_pages}
+use Rattle.ol_values.specs.Image.{IsPage, page_bytes}
+use Rattle.ol_values.specs.Pages.{rid_of}
+use Rattle.ol_rules.specs.Journal.{page_at, row_at, stamp_at}
+use Rattle.ol_values.specs.Blocks.{Saved}
 
 -- a space: how many of its slots hold a row, and the images of its first pages
 pub record Filled : Type 0 where

@@ -1,2 +1,9 @@
+pub mod Machine
+pub mod Sessions
+pub mod Archivers
+pub mod Turns
+pub mod Lines
+pub mod History
+pub mod Tape
 pub mod Filled
 pub mod Core

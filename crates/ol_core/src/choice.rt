@@ -2,13 +2,13 @@
 
 ghost use Rattle.std.specs.Prelude.{◌≡◌, ◌<◌, IfSome, length};
 ghost use Rattle.std.specs.Option.{option_map};
-ghost use Rattle.ol_model.specs.Archivers.{spaces_named};
-ghost use Rattle.ol_model.specs.Config.{space_named};
+ghost use Rattle.ol_core.specs.Archivers.{spaces_named};
+ghost use Rattle.ol_values.specs.Config.{space_named};
 ghost use Rattle.ol_chunks.specs.Limits.{IsConfig};
 ghost use Rattle.ol_core.specs.Filled.{marked, no_marks};
 
 use ol_chunks::{ChunkTable, Name};
-use ol_model::{Label, Labels};
+use ol_values::{Label, Labels};
 
 /// The space of this name; None where no space has it.
 pub(crate) fn find(table: &ChunkTable, label: &Label) -> Option<u8>

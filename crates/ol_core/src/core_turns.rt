@@ -2,7 +2,7 @@
 
 ghost use Rattle.std.specs.Prelude.{◌≡◌, ◌++◌, ◌∷◌, [], ◌+◌, ◌/◌, ◌^◌, ◌<◌, ◌≤◌, ◌*◌, length, OnOk, OnErr, IfOk, vec_len, vec_capacity};
 ghost use Rattle.std.specs.Prelude.{Some, None};
-ghost use Rattle.ol_model.specs.declared.record.Record.TheVariants.{Change};
+ghost use Rattle.ol_values.specs.declared.record.Record.TheVariants.{Change};
 ghost use Rattle.ol_core.specs.Core.{entry_of};
 ghost use Rattle.ol_core.specs.Filled.{slot_at};
 
@@ -11,8 +11,8 @@ use crate::pages::Pages;
 use crate::running::Running;
 use crate::space_pages::SLOTS;
 use ol_chunks::ChunkTable;
-use ol_model::{By, Entry, Event, History, Label, Labels, NoMemory, Record, Reply, Rid, Row, Why};
 use ol_page::{PAGE_LENGTH, stamp};
+use ol_values::{By, Entry, Event, History, Label, Labels, NoMemory, Record, Reply, Rid, Row, Why};
 use std::alloc::Global;
 use std::marker::Model;
 
@@ -92,13 +92,13 @@ fn append(journal: &mut Vec<Record>, added: Record)
 }
 
 impl Core {
-    ghost use Rattle.ol_model.specs.declared.history.Actor.TheVariants.{Session, Archiver};
-    ghost use Rattle.ol_model.specs.declared.event.Event.TheVariants.{Begin as BeginTurn, Insert as InsertTurn, Commit as CommitTurn, ArchiveStart, ArchiveTurn, ArchiveEnd, ArchiveCancel};
+    ghost use Rattle.ol_values.specs.declared.history.Actor.TheVariants.{Session, Archiver};
+    ghost use Rattle.ol_values.specs.declared.event.Event.TheVariants.{Begin as BeginTurn, Insert as InsertTurn, Commit as CommitTurn, ArchiveStart, ArchiveTurn, ArchiveEnd, ArchiveCancel};
     ghost use Rattle.ol_core.specs.Core.{Takes, IsIdle, IsThere, IsWithin, ShowsCount, archive_in};
-    ghost use Rattle.ol_model.specs.Config.{data_pages};
-    ghost use Rattle.ol_model.specs.Image.{page_bytes};
-    ghost use Rattle.ol_model.specs.Journal.{page_at};
-    ghost use Rattle.ol_model.specs.Machine.{archive_of, config_of, formatted, journal_in};
+    ghost use Rattle.ol_values.specs.Config.{data_pages};
+    ghost use Rattle.ol_values.specs.Image.{page_bytes};
+    ghost use Rattle.ol_rules.specs.Journal.{page_at};
+    ghost use Rattle.ol_core.specs.Machine.{archive_of, config_of, formatted, journal_in};
     ghost use Rattle.std.specs.Option.{option_map};
     ghost use Rattle.std.specs.Prelude.{IfSome};
 

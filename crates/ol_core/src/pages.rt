@@ -1,14 +1,14 @@
 //! The pages of all spaces that rows lie on.
 
 ghost use Rattle.std.specs.Prelude.{◌≡◌, ◌++◌, ◌∷◌, [], ◌+◌, ◌*◌, ◌/◌, ◌<◌, ◌≤◌, IfOk, IfSome, List, None, OnOk, Some, drop, length, replicate, ℕ};
-ghost use Rattle.ol_model.specs.Config.{Config, data_pages};
-ghost use Rattle.ol_model.specs.declared.record.Record.{Record};
-ghost use Rattle.ol_model.specs.declared.record.Record.TheVariants.{Change};
+ghost use Rattle.ol_values.specs.Config.{Config, data_pages};
+ghost use Rattle.ol_values.specs.declared.record.Record.{Record};
+ghost use Rattle.ol_values.specs.declared.record.Record.TheVariants.{Change};
 ghost use Rattle.ol_core.specs.Filled.{AreFew, AreFilled, filled_at, first_place, image_at, no_rows, slot_at, used_from};
 
 use crate::space_pages::SpacePages;
-use ol_model::{NoMemory, Row};
 use ol_page::PAGE_LENGTH;
+use ol_values::{NoMemory, Row};
 use std::alloc::Global;
 use std::marker::Model;
 

@@ -1,12 +1,12 @@
 //! The pages of one space that rows lie on, as images.
 
 ghost use Rattle.std.specs.Prelude.{◌≡◌, ◌++◌, ◌∷◌, [], ◌+◌, ◌*◌, ◌/◌, ◌<◌, ◌^◌, List, None, OnOk, Some, length, ℕ};
-ghost use Rattle.ol_model.specs.declared.record.Record.{Record};
-ghost use Rattle.ol_model.specs.declared.record.Record.TheVariants.{Change};
+ghost use Rattle.ol_values.specs.declared.record.Record.{Record};
+ghost use Rattle.ol_values.specs.declared.record.Record.TheVariants.{Change};
 ghost use Rattle.ol_core.specs.Filled.{IsFilled, blank_image, image_at, no_rows, pages_used, slot_at};
 
-use ol_model::{NoMemory, Row};
 use ol_page::{PAGE_LENGTH, set_slot};
+use ol_values::{NoMemory, Row};
 use std::alloc::Global;
 use std::marker::Model;
 

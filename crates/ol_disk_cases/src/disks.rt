@@ -11,11 +11,7 @@ pub fn blank(alloc: Global, sizes: &[u32], failing: &[u64]) -> Result<MemoryDisk
 }
 
 /// A page of a disk.
-pub fn page_of<D: Disk>(
-    disk: &mut D,
-    chunk: u8,
-    page: u32,
-) -> Result<[u8; PAGE_LENGTH], &'static str> {
+fn page_of<D: Disk>(disk: &mut D, chunk: u8, page: u32) -> Result<[u8; PAGE_LENGTH], &'static str> {
     let mut bytes = [0x33; PAGE_LENGTH];
     if page >= disk.size(chunk) {
         return Err("there is no such page");
@@ -27,7 +23,7 @@ pub fn page_of<D: Disk>(
 }
 
 /// Writes bytes into a page, from an offset on.
-pub fn put<D: Disk>(
+fn put<D: Disk>(
     disk: &mut D,
     chunk: u8,
     page: u32,
@@ -47,7 +43,7 @@ pub fn put<D: Disk>(
 }
 
 /// Makes a chunk durable.
-pub fn sync<D: Disk>(disk: &mut D, chunk: u8) -> Result<(), &'static str> {
+fn sync<D: Disk>(disk: &mut D, chunk: u8) -> Result<(), &'static str> {
     if disk.size(chunk) == 0 {
         return Err("there is no such chunk");
     }
@@ -55,15 +51,6 @@ pub fn sync<D: Disk>(disk: &mut D, chunk: u8) -> Result<(), &'static str> {
         Ok(()) => Ok(()),
         Err(_) => Err("the sync failed"),
     }
-}
-
-/// Loses the bytes of a chunk.
-fn clear(disk: &mut MemoryDisk, chunk: u8) -> Result<(), &'static str> {
-    if disk.size(chunk) == 0 {
-        return Err("there is no such chunk");
-    }
-    disk.clear(chunk);
-    Ok(())
 }
 
 /// The disk that a stop within a call leaves.
@@ -84,16 +71,6 @@ pub fn calls<D: Disk>(disk: &D) -> u64 {
     disk.calls()
 }
 
-/// The faults that are counted at a chunk.
-pub fn faults<D: Disk>(disk: &D, chunk: u8) -> u64 {
-    disk.faults(chunk)
-}
-
-/// The pages of a chunk.
-pub fn size<D: Disk>(disk: &D, chunk: u8) -> u32 {
-    disk.size(chunk)
-}
-
 /// Requires that a page has these bytes at an offset, and that the bytes behind them are zero.
 fn require_bytes(
     rt: &impl Abort,
@@ -109,34 +86,6 @@ fn require_bytes(
     let (held, rest) = behind.split_at_checked(bytes.len()).ok_or("no such end")?;
     assert_eq!(rt; held, bytes, "at {name}");
     assert!(rt; rest.iter().all(|b| *b == 0), "behind the bytes at {name}");
-    Ok(())
-}
-
-#[test]
-fn disk_has_its_chunks(rt: HostRuntime) -> Result<(), Fail> {
-    let disk = blank(rt.alloc(), &[2, 1], &[])?;
-    for (chunk, pages) in [(0, 2), (1, 1), (2, 0), (255, 0)] {
-        assert_eq!(rt; size(&disk, chunk), pages, "at chunk {chunk}");
-    }
-    assert_eq!(rt; calls(&disk), 0);
-    assert_eq!(rt; disk.starved(), 0);
-    Ok(())
-}
-
-#[test]
-fn disk_reads_what_was_written(rt: HostRuntime) -> Result<(), Fail> {
-    let mut disk = blank(rt.alloc(), &[2, 1], &[])?;
-    require_bytes(&rt, &mut disk, 0, 1, 0, b"", "a blank page")?;
-    put(&mut disk, 0, 1, 2045, b"abc")?;
-    put(&mut disk, 0, 1, 2046, b"x")?;
-    put(&mut disk, 1, 0, 0, &[7; PAGE_LENGTH])?;
-    require_bytes(&rt, &mut disk, 0, 1, 2045, b"axc", "the end of a page")?;
-    require_bytes(&rt, &mut disk, 0, 0, 0, b"", "the other page")?;
-    require_bytes(&rt, &mut disk, 1, 0, 0, &[7; PAGE_LENGTH], "a whole page")?;
-    assert_eq!(rt; calls(&disk), 3);
-    sync(&mut disk, 0)?;
-    assert_eq!(rt; calls(&disk), 4);
-    assert_eq!(rt; (faults(&disk, 0), faults(&disk, 1)), (0, 0));
     Ok(())
 }
 
@@ -227,18 +176,6 @@ fn stop_behind_the_last_call_leaves_what_was_chosen(rt: HostRuntime) -> Result<(
     Ok(())
 }
 
-#[test]
-fn cleared_chunk_is_zero_and_durable(rt: HostRuntime) -> Result<(), Fail> {
-    let mut disk = torn(rt.alloc())?;
-    clear(&mut disk, 1)?;
-    assert_eq!(rt; calls(&disk), 0);
-    for choice in [Choice::Old, Choice::Fill(1)] {
-        let mut left = rest(&disk, choice)?;
-        require_chunks(&rt, &mut left, b"onew..", b"", "the stopped disk")?;
-    }
-    require_chunks(&rt, &mut disk, b"onew..", b"", "the disk")
-}
-
 /// Whether a page can't be read.
 fn read_fails(disk: &mut MemoryDisk, chunk: u8, page: u32) -> bool {
     page_of(disk, chunk, page).is_err()
@@ -263,17 +200,6 @@ fn failed(rt: &(impl Abort + AllocGlobal)) -> Result<MemoryDisk, Fail> {
     assert!(rt; sync_fails(&mut disk, 1), "the sync");
     assert!(rt; read_fails(&mut disk, 0, 0), "the read");
     Ok(disk)
-}
-
-#[test]
-fn disk_fails_where_it_is_told(rt: HostRuntime) -> Result<(), Fail> {
-    let mut disk = failed(&rt)?;
-    require_bytes(&rt, &mut disk, 0, 0, 0, b"", "the page of the failed read")?;
-    // each fault is counted by its chunk
-    assert_eq!(rt; faults(&disk, 0), 1);
-    assert_eq!(rt; faults(&disk, 1), 2);
-    assert_eq!(rt; calls(&disk), 2);
-    Ok(())
 }
 
 #[test]

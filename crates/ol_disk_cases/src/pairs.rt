@@ -1,12 +1,52 @@
 //! The pair of pages that holds the anchor.
 
-use crate::anchors::{holds, read, sample};
-use crate::disks::{blank, calls, faults, put, rest, stopped};
+use crate::configs::SMALL_CONFIG;
+use crate::disks::{blank, calls, rest, stopped};
 use ol_outside::{Choice, Disk, MemoryDisk, PAGE_LENGTH};
-use ol_reserve::{Anchor, Pair, ReserveFault};
+use ol_reserve::{Anchor, AnchorFault, ConfigText, Pair, ReserveFault};
 use std::alloc::Global;
 use std::process::Abort;
 use std::test::Fail;
+
+/// An anchor of the small configuration, whose second space is down.
+fn sample(serial: u64) -> Result<Anchor, Fail> {
+    let text = ConfigText::new(SMALL_CONFIG.as_bytes()).ok_or("no text")?;
+    let mut anchor = Anchor {
+        state: 1,
+        serial,
+        incarnation: 0x1112_1314_1516_1718,
+        position: 0x2122_2324_2526_2728,
+        generation: 0x3132_3334_3536_3738,
+        next_archive: 0x0142_4344_4546_4748,
+        backed: 0x0152_5354_5556_5758,
+        uniq: 0x4000_0000_0000_0000,
+        need: 0x0172_7374_7576_7778,
+        states: [1, 2, 0, 0, 0, 0, 0, 0, 0, 0, 0, 0, 0, 0, 0, 0],
+        down_at: [0; 16],
+        zero: [(0, 0); 16],
+        one: [(0, 0); 16],
+        text,
+    };
+    anchor.down_at[1] = 0x0182_8384_8586_8788;
+    anchor.zero[0] = (0x0192_9394_9596_9798, 0x01a2_a3a4_a5a6_a7a8);
+    anchor.one[0] = (0x01b2_b3b4_b5b6_b7b8, 0x01c2_c3c4_c5c6_c7c8);
+    anchor.zero[15] = (7, 8);
+    anchor.one[15] = (9, 10);
+    Ok(anchor)
+}
+
+/// The anchor that a page holds.
+fn read(alloc: Global, page: &[u8; PAGE_LENGTH]) -> Result<Anchor, AnchorFault> {
+    Anchor::decode(alloc, page)
+}
+
+/// Whether a page holds this anchor.
+fn holds(alloc: Global, page: &[u8; PAGE_LENGTH], anchor: &Anchor) -> bool {
+    match read(alloc, page) {
+        Ok(found) => found == *anchor,
+        Err(_) => false,
+    }
+}
 
 /// Writes an anchor, and tells whether that went well.
 fn is_written<D: Disk>(disk: &mut D, anchor: &Anchor) -> bool {
@@ -29,10 +69,7 @@ fn write(disk: &mut MemoryDisk, serial: u64) -> Result<(), Fail> {
 }
 
 /// The page of the newest anchor of a disk.
-pub fn newest_page<D: Disk>(
-    alloc: Global,
-    disk: &mut D,
-) -> Result<[u8; PAGE_LENGTH], ReserveFault> {
+fn newest_page<D: Disk>(alloc: Global, disk: &mut D) -> Result<[u8; PAGE_LENGTH], ReserveFault> {
     let mut page = [0; PAGE_LENGTH];
     match Pair::newest(alloc, disk, &mut page) {
         Ok(()) => Ok(page),
@@ -128,70 +165,5 @@ fn stop_within_a_write_leaves_the_old_or_the_new_anchor(rt: HostRuntime) -> Resu
         require_stops(&rt, &mut disk, serial)?;
         assert_eq!(rt; newest(rt.alloc(), &mut disk)?, serial);
     }
-    Ok(())
-}
-
-/// A byte of page 0 or 1 where the two hold the anchors 1 and 2, and the page that is then told to be damaged.
-const DAMAGES: [(u32, u16, u8, u32); 4] = [
-    (0, 1000, 0x55, 0),
-    (1, 2047, 0x55, 1),
-    // the serial of page 1 is that of page 0
-    (1, 15, 1, 1),
-    (0, 15, 2, 1),
-];
-
-/// Why a disk gives no newest anchor.
-fn fault_of(alloc: Global, disk: &mut MemoryDisk) -> Option<ReserveFault> {
-    match newest_page(alloc, disk) {
-        Ok(_) => None,
-        Err(fault) => Some(fault),
-    }
-}
-
-/// Requires that a page of the pair is told to be damaged, and that a page whose gate is closed is not looked at.
-fn require_damage(
-    rt: &(impl Abort + AllocGlobal),
-    page: u32,
-    offset: u16,
-    byte: u8,
-    damaged: u32,
-) -> Result<(), Fail> {
-    let mut disk = blank(rt.alloc(), &[2], &[])?;
-    write(&mut disk, 1)?;
-    write(&mut disk, 2)?;
-    put(&mut disk, 0, page, offset, &[byte])?;
-    let fault = ReserveFault::BadDisk {
-        chunk: 0,
-        page: damaged,
-    };
-    assert_eq!(rt;
-        fault_of(rt.alloc(), &mut disk),
-        Some(fault),
-        "at byte {offset} of page {page}"
-    );
-    put(&mut disk, 0, page, 0, &[0])?;
-    let other = if page == 0 { 2 } else { 1 };
-    assert_eq!(rt;
-        newest(rt.alloc(), &mut disk)?,
-        other,
-        "without page {page}"
-    );
-    Ok(())
-}
-
-#[test]
-fn pair_tells_its_damage(rt: HostRuntime) -> Result<(), Fail> {
-    for (page, offset, byte, damaged) in DAMAGES {
-        require_damage(&rt, page, offset, byte, damaged)?;
-    }
-    Ok(())
-}
-
-#[test]
-fn pair_tells_a_failed_read(rt: HostRuntime) -> Result<(), Fail> {
-    let mut disk = blank(rt.alloc(), &[2], &[2])?;
-    let fault = ReserveFault::DiskFault { chunk: 0 };
-    assert_eq!(rt; fault_of(rt.alloc(), &mut disk), Some(fault));
-    assert_eq!(rt; faults(&disk, 0), 1);
     Ok(())
 }

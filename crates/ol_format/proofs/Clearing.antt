@@ -4,7 +4,7 @@ use Rattle.std.proofs.Common.{◌≡◌, inl, inr, ℕ, zero, suc, ◌+◌, ◌<
 use Rattle.std.proofs.lemmas.Bool.{cases_eq}
 use Rattle.std.proofs.lemmas.List.{get_or-replicate, length-replicate}
 use Rattle.ol_chunks.specs.Places.{chunk_pages}
-use Rattle.ol_model.specs.Config.{Config}
+use Rattle.ol_values.specs.Config.{Config}
 use Rattle.ol_outside.specs.Disk.{Bytes, Past, Rest, Syncs, Writes, seen}
 use Rattle.ol_outside.proofs.DiskLaws.{rest-seen}
 use Rattle.ol_outside.proofs.DiskSteps.{sync_seen, sync_shut, write_seen}

@@ -5,7 +5,7 @@ use Rattle.std.proofs.Common.{arith, inl, length-append, refl}
 use Rattle.std.proofs.lemmas.List.{length-replicate}
 use Rattle.ol_chunks.specs.Limits.{IsConfig}
 use Rattle.ol_chunks.proofs.AgainLaws.{length-text, read_again}
-use Rattle.ol_model.specs.Config.{Config}
+use Rattle.ol_values.specs.Config.{Config}
 use Rattle.ol_reserve.specs.Anchor.{IsAnchor, are_downs, are_states}
 use Rattle.ol_format.specs.First.{first_anchor}
 

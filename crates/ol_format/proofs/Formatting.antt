@@ -8,17 +8,17 @@ use Rattle.ol_chunks.specs.Limits.{IsConfig, chunk_count}
 use Rattle.ol_chunks.specs.Places.{chunk_pages, first_number, log_area, physical_area, place_of}
 use Rattle.ol_chunks.proofs.Chunks.{IsPlace, first_pages, has_chunk, logs_inside, physical_inside, place_inside, place_is}
 use Rattle.ol_chunks.proofs.PlaceLaws.{logs_past_reserved, past_reserved, physical_past_reserved}
-use Rattle.ol_model.specs.Config.{Config, SpaceConfig, area_pages, space_at, unnamed}
+use Rattle.ol_values.specs.Config.{Config, SpaceConfig, area_pages, space_at, unnamed}
 use Rattle.ol_outside.specs.Causes.{HasChunkCause, Rose}
 use Rattle.ol_outside.specs.Disk.{Bytes, Leaves, Past, Rest, seen}
-use Rattle.ol_outside.proofs.DiskLaws.{rest-seen}
+use Rattle.ol_outside.proofs.DiskLaws.{leaves_weaker, leaves_with, rest-seen}
 use Rattle.ol_reserve.specs.Anchor.{IsAnchor}
-use Rattle.ol_reserve.specs.Pair.{FramedByPair, IsAbove, IsOneOf, IsReady}
+use Rattle.ol_reserve.specs.Pair.{FramedByPair, IsAbove, IsOneOf, IsReady, Newest}
 use Rattle.ol_reserve.specs.declared.anchor.Anchor.{Anchor}
 use Rattle.ol_reserve.proofs.Gates.{newest_seen}
 use Rattle.ol_format.specs.Causes.{HasFormatCause}
 use Rattle.ol_format.specs.First.{AreLarge, IsFirstOf, chunks_of, first_anchor}
-use Rattle.ol_format.specs.Formatted.{AreZeroed, IsFormatted, IsZero, Stops, first_page}
+use Rattle.ol_format.specs.Formatted.{AreZeroed, IsBlankOrFormatted, IsFormatted, IsZero, Stops, first_page}
 use Rattle.ol_format.specs.declared.FormatFault.{FormatFault}
 use Rattle.ol_format.specs.declared.FormatFault.TheVariants.{DiskFault}
 use Rattle.ol_format.proofs.FirstAnchor.{is_first}
@@ -51,9 +51,9 @@ behind_pair : (chunk page : ℕ) → (chunk ≡ 0 → 12 ≤ page) → first_pag
 behind_pair zero page past = omega (arith, past refl)
 behind_pair (suc chunk) page past = omega arith
 
-zero_there : (old new : Past) (c : Config) → AreZeroed old c (chunk_count c.spaces) → (d : Bytes) → FramedByPair old d
+zero_there : (old : Past) (c : Config) → AreZeroed old c (chunk_count c.spaces) → (d : Bytes) → FramedByPair old d
     → (chunk page : ℕ) → chunk < chunk_count c.spaces → (chunk ≡ 0 → 12 ≤ page) → page < chunk_pages c chunk → IsZero d chunk page
-zero_there old new c zeroed d f chunk page among past lt i inside =
+zero_there old c zeroed d f chunk page among past lt i inside =
     f.same chunk page i (λ at pair. omega (arith, past at, pair)) ∙ zeroed.chunks chunk among f.from f.rest page (behind_pair chunk page past) lt i inside
 
 -- where a data page lies
@@ -70,10 +70,10 @@ placed c is space page p e = go (cases_lt space (length c.spaces))
     )
     go (inr ge) = absurd (omega (arith, at.there, ap (λ (s : SpaceConfig). length s.chunks) (get_or_past c.spaces space unnamed ge)))
 
-pub formatted_from : (old new : Past) (c : Config) → IsConfig c → AreZeroed old c (chunk_count c.spaces) → IsReady new (Some (first_anchor c)) → ((d : Bytes) → Rest new d → FramedByPair old d)
-    → (d : Bytes) → Rest new d → IsFormatted d c
-formatted_from old new c is zeroed ready frame d rest = record {
-  anchor = newest_seen new (Some (first_anchor c)) d ready rest;
+-- where only the pair differs from a cleared disk, and holds the first anchor
+formatted_image : (old : Past) (c : Config) → IsConfig c → AreZeroed old c (chunk_count c.spaces) → (d : Bytes) → FramedByPair old d → Newest d (Some (first_anchor c)) → IsFormatted d c
+formatted_image old c is zeroed d f newest = record {
+  anchor = newest;
   reserved = λ page le lt. zero_reserved page le lt;
   logs = λ k lt opened.
       let area = log_area c in
@@ -94,16 +94,17 @@ formatted_from old new c is zeroed ready frame d rest = record {
       zero_at place.0 place.1 p.0 (λ at. past_reserved c is space page place e at) p.1;
 }
   where
-    f : FramedByPair old d
-    f = frame d rest
-
     -- pages 2 to 11 are zero as well
     zero_reserved : (page : ℕ) → 2 ≤ page → page < 12 → IsZero d 0 page
     zero_reserved page le lt i inside =
         f.same 0 page i (λ at pair. omega (arith, le, pair)) ∙ zeroed.chunks 0 (some_chunk c is) f.from f.rest page le (omega (arith, lt, root_pages c is)) i inside
 
     zero_at : (chunk page : ℕ) → chunk < chunk_count c.spaces → (chunk ≡ 0 → 12 ≤ page) → page < chunk_pages c chunk → IsZero d chunk page
-    zero_at chunk page among past lt = zero_there old new c zeroed d f chunk page among past lt
+    zero_at chunk page among past lt = zero_there old c zeroed d f chunk page among past lt
+
+pub formatted_from : (old new : Past) (c : Config) → IsConfig c → AreZeroed old c (chunk_count c.spaces) → IsReady new (Some (first_anchor c)) → ((d : Bytes) → Rest new d → FramedByPair old d)
+    → (d : Bytes) → Rest new d → IsFormatted d c
+formatted_from old new c is zeroed ready frame d rest = formatted_image old c is zeroed d (frame d rest) (newest_seen new (Some (first_anchor c)) d ready rest)
 
 -- a cleared disk has an empty pair
 pub blank_ready : (past : Past) (c : Config) → IsConfig c → AreZeroed past c (chunk_count c.spaces) → IsReady past None
@@ -126,6 +127,19 @@ stops_first old new c a first zeroed within behind =
     let is : IsAnchor a = subst (λ (b : Anchor). IsAnchor b) (sym first.1) (is_first c first.0) in
     let ready = blank_ready old c first.0 zeroed in
     subst (λ (b : Anchor). Stops old new (IsOneOf None (Some b))) first.1 (record { within = within None ready is tt; behind = behind None ready is tt })
+
+-- a stop within the write of the first anchor leaves none, or a formatted disk
+pub stops_formatted : (old new : Past) (c : Config) → IsConfig c → AreZeroed old c (chunk_count c.spaces) → Stops old new (IsOneOf None (Some (first_anchor c)))
+    → Leaves old new (FramedByPair old) → ((d : Bytes) → Rest new d → FramedByPair old d) → Stops old new (IsBlankOrFormatted c)
+stops_formatted old new c is zeroed one within behind = record {
+  within = leaves_weaker old new (λ d. IsOneOf None (Some (first_anchor c)) d × FramedByPair old d) (IsBlankOrFormatted c) (λ d both. image d both.0 both.1)
+      (leaves_with old new (IsOneOf None (Some (first_anchor c))) (FramedByPair old) one.within within);
+  behind = λ d rest. image d (one.behind d rest) (behind d rest);
+}
+  where
+    image : (d : Bytes) → IsOneOf None (Some (first_anchor c)) d → FramedByPair old d → IsBlankOrFormatted c d
+    image d (inl none) f = inl none
+    image d (inr first) f = inr (formatted_image old c is zeroed d f first)
 
 -- ---- causes
 

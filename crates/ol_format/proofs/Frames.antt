@@ -3,7 +3,7 @@ use Rattle.std.specs.Prelude.{ℕ, ◌<◌, ◌≡◌}
 use Rattle.std.proofs.Common.{arith, refl, subst, sym, ◌∙◌}
 use Rattle.ol_chunks.specs.Limits.{IsConfig, chunk_count}
 use Rattle.ol_chunks.specs.Places.{chunk_pages}
-use Rattle.ol_model.specs.Config.{Config}
+use Rattle.ol_values.specs.Config.{Config}
 use Rattle.ol_outside.specs.Disk.{Bytes, Leaves, Past, Rest}
 use Rattle.ol_reserve.specs.Pair.{FramedByPair}
 use Rattle.ol_format.specs.Formatted.{FramedByGates, FramedByPages, FramedBySpaces, Stops}

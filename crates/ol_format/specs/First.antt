@@ -2,7 +2,7 @@
 use Rattle.std.specs.Prelude.{length, replicate, ℕ, ◌++◌, ◌+◌, ◌-◌, ◌<◌, ◌≡◌, ◌≤◌}
 use Rattle.ol_chunks.specs.Limits.{IsConfig, chunk_count}
 use Rattle.ol_chunks.specs.Places.{chunk_pages}
-use Rattle.ol_model.specs.Config.{Config, config_text}
+use Rattle.ol_values.specs.Config.{Config, config_text}
 use Rattle.ol_reserve.specs.declared.anchor.Anchor.{Anchor}
 
 -- on line, with incarnation 1, the empty journal, no known archive, and all spaces up

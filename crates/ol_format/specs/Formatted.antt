@@ -2,9 +2,9 @@
 use Rattle.std.specs.Prelude.{None, Some, suc, zero, ℕ, ◌*◌, ◌+◌, ◌<◌, ◌≡◌, ◌≢◌, ◌≤◌, ◌⊎◌}
 use Rattle.ol_chunks.specs.Limits.{chunk_count}
 use Rattle.ol_chunks.specs.Places.{chunk_pages, log_area, physical_area, place_of}
-use Rattle.ol_model.specs.Config.{Config}
+use Rattle.ol_values.specs.Config.{Config}
 use Rattle.ol_outside.specs.Disk.{Bytes, Leaves, Past, Rest, seen}
-use Rattle.ol_reserve.specs.Pair.{IsOneOf, IsShut, Newest}
+use Rattle.ol_reserve.specs.Pair.{IsShut, Newest}
 use Rattle.ol_format.specs.First.{first_anchor}
 
 -- a page of zeros
@@ -42,9 +42,13 @@ pub record FramedBySpaces (past : Past) (c : Config) (d : Bytes) : Type 0 where
 abbrev pub IsClosing : Past → Bytes → Type 0
 IsClosing past d = FramedByGates past d ⊎ Newest d None
 
--- the same, or there is the first anchor
+-- there is no anchor, or the disk is formatted
+abbrev pub IsBlankOrFormatted : Config → Bytes → Type 0
+IsBlankOrFormatted c d = Newest d None ⊎ IsFormatted d c
+
+-- nothing but the gates has changed yet, or one of these
 abbrev pub IsBetween : Past → Config → Bytes → Type 0
-IsBetween past c d = FramedByGates past d ⊎ IsOneOf None (Some (first_anchor c)) d
+IsBetween past c d = FramedByGates past d ⊎ IsBlankOrFormatted c d
 
 -- ---- on the way
 

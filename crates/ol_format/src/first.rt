@@ -2,7 +2,7 @@
 
 ghost use Rattle.std.specs.Prelude.{◌≡◌, ◌≤◌, ◌++◌, ◌-◌, IfNone, IfSome, length, replicate};
 ghost use Rattle.ol_chunks.specs.Limits.{IsConfig};
-ghost use Rattle.ol_model.specs.Config.{config_text};
+ghost use Rattle.ol_values.specs.Config.{config_text};
 ghost use Rattle.ol_reserve.specs.Anchor.{IsAnchor};
 ghost use Rattle.ol_format.specs.First.{AreLarge, IsFirstSmall, chunks_of, first_anchor};
 

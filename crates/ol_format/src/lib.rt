@@ -6,12 +6,12 @@ mod zeros;
 
 ghost use Rattle.std.specs.Prelude.{◌≡◌, ◌≤◌, ℕ, None, Some, IsErrOf, OnOk};
 ghost use Rattle.ol_outside.specs.Disk.{Bytes, Rest};
-ghost use Rattle.ol_reserve.specs.Pair.{IsOneOf, IsReady};
+ghost use Rattle.ol_reserve.specs.Pair.{IsReady};
 ghost use Rattle.ol_chunks.specs.Limits.{IsConfig, chunk_count};
-ghost use Rattle.ol_model.specs.Config.{Config};
+ghost use Rattle.ol_values.specs.Config.{Config};
 ghost use Rattle.ol_format.specs.Causes.{HasFormatCause};
 ghost use Rattle.ol_format.specs.First.{AreLarge, IsFirstOf, IsFirstSmall, chunks_of, first_anchor};
-ghost use Rattle.ol_format.specs.Formatted.{AreZeroed, FramedBySpaces, IsBetween, IsClosing, IsFormatted, Stops};
+ghost use Rattle.ol_format.specs.Formatted.{AreZeroed, FramedBySpaces, IsBetween, IsBlankOrFormatted, IsClosing, IsFormatted, Stops};
 
 use crate::first::make_first;
 use crate::zeros::{close_pair, zero_chunks};
@@ -39,7 +39,7 @@ pub fn format<D: Disk>(disk: &mut D, table: &ChunkTable) -> Result<(), FormatFau
     // What is read, and what each stop afterwards leaves, is a formatted disk.
     ensures ok { D.tells → OnOk result ((d : Bytes) → Rest (D.past disk.new) d → IsFormatted d table.now) }
     ensures ready { D.tells → OnOk result (IsReady (D.past disk.new) (Some (first_anchor table.now))) }
-    // A stop within the call, or behind one that failed, leaves no anchor over pages that are zeroed.
+    // A stop within the call, or behind one that failed, leaves what was there but for the gates, no anchor, or a formatted disk.
     ensures stops { D.tells → Stops (D.past disk.old) (D.past disk.new) (IsBetween (D.past disk.old) table.now) }
     // The temporary chunk and the pages behind those of the configuration stay as they were.
     ensures frame { D.tells → Stops (D.past disk.old) (D.past disk.new) (FramedBySpaces (D.past disk.old) table.now) }
@@ -96,7 +96,7 @@ fn write_first<D: Disk>(disk: &mut D, anchor: &Anchor) -> Result<(), FormatFault
     requires { 2 ≤ D.sizes disk.old 0 }
     ensures ok { D.tells → (c : Config) → IsFirstOf c anchor.now → AreZeroed (D.past disk.old) c (chunk_count c.spaces) → OnOk result ((d : Bytes) → Rest (D.past disk.new) d → IsFormatted d c) }
     ensures ready { D.tells → (c : Config) → IsFirstOf c anchor.now → AreZeroed (D.past disk.old) c (chunk_count c.spaces) → OnOk result (IsReady (D.past disk.new) (Some (first_anchor c))) }
-    ensures stops { D.tells → (c : Config) → IsFirstOf c anchor.now → AreZeroed (D.past disk.old) c (chunk_count c.spaces) → Stops (D.past disk.old) (D.past disk.new) (IsOneOf None (Some (first_anchor c))) }
+    ensures stops { D.tells → (c : Config) → IsFirstOf c anchor.now → AreZeroed (D.past disk.old) c (chunk_count c.spaces) → Stops (D.past disk.old) (D.past disk.new) (IsBlankOrFormatted c) }
     ensures frame { D.tells → (c : Config) → IsConfig c → Stops (D.past disk.old) (D.past disk.new) (FramedBySpaces (D.past disk.old) c) }
     ensures small { (chunk : ℕ) → IsErrOf result (FormatFault.TooSmall chunk) → ⊥ }
     ensures cause { HasFormatCause (D.fault_counts disk.old) (D.fault_counts disk.new) result }

@@ -3,7 +3,7 @@
 ghost use Rattle.std.specs.Prelude.{◌≡◌, ◌+◌, ◌<◌, ◌≤◌, ◌++◌, ◌∷◌, [], length, IsOk, OnOk, OnErr};
 
 use crate::NoMemory;
-use ol_model::Record;
+use ol_values::Record;
 use std::alloc::Global;
 use std::marker::Model;
 

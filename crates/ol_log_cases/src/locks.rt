@@ -3,8 +3,8 @@
 ghost use Rattle.std.specs.Prelude.{◌≡◌};
 ghost use Rattle.ol_txn.specs.Seats.{IsSession};
 
-use ol_model::{Rid, Row};
 use ol_txn::{LockFault, Locks};
+use ol_values::{Rid, Row};
 use std::process::Abort;
 use std::test::Fail;
 

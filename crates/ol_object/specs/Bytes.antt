@@ -2,10 +2,11 @@
 use Rattle.std.specs.Prelude.{ℕ, List, [], ◌∷◌, ◌++◌, ◌-◌, codes, flat_map, length, replicate}
 use Rattle.std.specs.Int.{w16, w32, w64, to_be_bytes}
 use Rattle.sha2.specs.Sha256.{sha256}
-use Rattle.ol_model.specs.Blocks.{ArchiveHead, HeadHeld, PageHeld, Payload}
-use Rattle.ol_model.specs.Blocks.{Block as BlockValue}
-use Rattle.ol_model.specs.Image.{page_bytes}
-use Rattle.ol_model.specs.Saveset.{Saved}
+use Rattle.ol_values.specs.Blocks.{ArchiveHead, Empty, HeadHeld, LogHeld, PageHeld, Payload}
+use Rattle.ol_values.specs.Blocks.{Block as BlockValue}
+use Rattle.ol_values.specs.Image.{page_bytes}
+use Rattle.ol_record.specs.LogPages.{log_page_bytes}
+use Rattle.ol_values.specs.Blocks.{Saved}
 use Rattle.ol_object.specs.declared.block.Block.{Block}
 
 -- the head: a mark of the format, kind, object and two zeros, and the fields, then eight zeros
@@ -35,8 +36,10 @@ archive_head_bytes h = length h.spaces ∷ flat_map saved_bytes h.spaces ++ (to_
 
 -- the used bytes of a payload
 abbrev pub payload_bytes : Payload → List ℕ
+payload_bytes Empty = []
 payload_bytes (HeadHeld head) = archive_head_bytes head
 payload_bytes (PageHeld page) = page_bytes page
+payload_bytes (LogHeld page) = log_page_bytes 1 page
 
 -- zeros behind these bytes, up to so many in all
 unfoldable pub padded_to : ℕ → List ℕ → List ℕ

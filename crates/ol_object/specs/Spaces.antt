@@ -1,7 +1,7 @@
 -- An archive head as the value of the parts that it is made of.
 use Rattle.std.specs.Prelude.{List, map, ℕ}
-use Rattle.ol_model.specs.Blocks.{ArchiveHead}
-use Rattle.ol_model.specs.Saveset.{Saved}
+use Rattle.ol_values.specs.Blocks.{ArchiveHead}
+use Rattle.ol_values.specs.Blocks.{Saved}
 
 -- a space of an archive, given as its number, its parent's number and its base
 abbrev pub saved_of : ℕ × ℕ × ℕ → Saved

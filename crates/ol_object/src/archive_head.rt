@@ -21,7 +21,7 @@ pub struct ArchiveHead {
 
 impl Model for ArchiveHead {
     ghost use Rattle.std.specs.Prelude.{◌≤◌, length};
-    ghost use Rattle.ol_model.specs.Blocks.{ArchiveHead as HeadValue};
+    ghost use Rattle.ol_values.specs.Blocks.{ArchiveHead as HeadValue};
     ghost use Rattle.ol_object.specs.Spaces.{archive_head_of};
 
     ghost Value = { HeadValue };

@@ -4,25 +4,26 @@ use Rattle.std.specs.Prelude.{List, None, Option, Some, [], drop, length, map, r
 use Rattle.std.proofs.Common.{ap, append_assoc, arith, inl, inr, length-append, length-drop, length-take, subst, sym, ◌∙◌}
 use Rattle.std.specs.List.{take-map}
 use Rattle.std.proofs.lemmas.List.{append-nil, length-map, map-append, take_all}
-use Rattle.ol_model.specs.declared.event.Event.TheVariants.{ArchiveTurn}
-use Rattle.ol_model.specs.declared.event.Reply.{Reply}
-use Rattle.ol_model.specs.declared.event.Reply.TheVariants.{AllTaken, NoArchive, PageIs}
-use Rattle.ol_model.specs.declared.history.Actor.{Actor}
-use Rattle.ol_model.specs.declared.history.Actor.TheVariants.{Archiver}
-use Rattle.ol_model.specs.declared.history.By.{By}
-use Rattle.ol_model.specs.declared.line.Form.{Form}
-use Rattle.ol_model.specs.declared.line.Form.TheVariants.{Archive as ArchiveForm}
-use Rattle.ol_model.specs.declared.line.Line.{Line}
-use Rattle.ol_model.specs.declared.record.Record.{Record}
-use Rattle.ol_model.specs.Archivers.{take_at, take_page, take_turn}
-use Rattle.ol_model.specs.Blocks.{Block, archive_page, header_kind, trailer_kind}
-use Rattle.ol_model.specs.Journal.{page_at}
-use Rattle.ol_model.specs.Lines.{Ending, Taking, event_at, stage_after}
-use Rattle.ol_model.specs.Machine.{Archive, Fixed, Machine, Work, archive_of, formatted, journal_in, left_of, pages_of, with_archive}
-use Rattle.ol_model.specs.Saveset.{SavedPage, places, saveset}
-use Rattle.ol_model.specs.Tape.{end_block, head_at, page_blocks}
-use Rattle.ol_model.specs.Turns.{given_by, turn}
-use Rattle.ol_model.proofs.TapeLaws.{front, front_taken, length-page_blocks, page_blocks-push}
+use Rattle.ol_values.specs.declared.event.Event.TheVariants.{ArchiveTurn}
+use Rattle.ol_values.specs.declared.event.Reply.{Reply}
+use Rattle.ol_values.specs.declared.event.Reply.TheVariants.{AllTaken, NoArchive, PageIs}
+use Rattle.ol_values.specs.declared.history.Actor.{Actor}
+use Rattle.ol_values.specs.declared.history.Actor.TheVariants.{Archiver}
+use Rattle.ol_values.specs.declared.history.By.{By}
+use Rattle.ol_values.specs.declared.line.Form.{Form}
+use Rattle.ol_values.specs.declared.line.Form.TheVariants.{Archive as ArchiveForm}
+use Rattle.ol_values.specs.declared.line.Line.{Line}
+use Rattle.ol_values.specs.declared.record.Record.{Record}
+use Rattle.ol_core.specs.Archivers.{take_at, take_page, take_turn}
+use Rattle.ol_values.specs.Blocks.{Block, archive_page, header_kind, trailer_kind}
+use Rattle.ol_rules.specs.Journal.{page_at}
+use Rattle.ol_core.specs.Lines.{Ending, Taking, event_at, stage_after}
+use Rattle.ol_core.specs.Machine.{Archive, Fixed, Machine, Work, archive_of, formatted, journal_in, left_of, pages_of, with_archive}
+use Rattle.ol_values.specs.Blocks.{SavedPage}
+use Rattle.ol_rules.specs.Saveset.{places, saveset}
+use Rattle.ol_core.specs.Tape.{end_block, head_at, page_blocks}
+use Rattle.ol_core.specs.Turns.{given_by, turn}
+use Rattle.ol_core.proofs.TapeLaws.{front, front_taken, length-page_blocks, page_blocks-push}
 use Rattle.ol_object.specs.Bytes.{bytes_of}
 use Rattle.ol_outside.specs.Causes.{Rose}
 use Rattle.ol_outside.specs.Drive.{Tape, all_synced, stream, stream_of}

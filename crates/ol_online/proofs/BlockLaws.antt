@@ -3,13 +3,13 @@ use Rattle.std.specs.List.{range_with_len}
 use Rattle.std.specs.Prelude.{Bool, List, [], filter, false, length, map, suc, take, true, ℕ, ◌++◌, ◌+◌, ◌-◌, ◌<◌, ◌∷◌, ◌≡◌, ◌≤◌, refl}
 use Rattle.std.proofs.Common.{ap, arith, sym, ◌∙◌}
 use Rattle.std.proofs.lemmas.List.{take-append-le, take_all}
-use Rattle.ol_model.specs.Blocks.{ArchiveHead, archive_page}
-use Rattle.ol_model.specs.Config.{Config, config_text}
-use Rattle.ol_model.specs.Image.{page_bytes}
-use Rattle.ol_model.specs.Journal.{Page}
-use Rattle.ol_model.specs.Machine.{formatted}
-use Rattle.ol_model.specs.Saveset.{Saved}
-use Rattle.ol_model.specs.Tape.{head_at}
+use Rattle.ol_values.specs.Blocks.{ArchiveHead, archive_page}
+use Rattle.ol_values.specs.Config.{Config, config_text}
+use Rattle.ol_values.specs.Image.{page_bytes}
+use Rattle.ol_values.specs.Pages.{Page}
+use Rattle.ol_core.specs.Machine.{formatted}
+use Rattle.ol_values.specs.Blocks.{Saved}
+use Rattle.ol_core.specs.Tape.{head_at}
 use Rattle.ol_object.specs.declared.block.Block.{Block}
 use Rattle.ol_object.specs.Bytes.{block_bytes, bytes_of}
 use Rattle.ol_object.specs.Spaces.{archive_head_of, saved_of}

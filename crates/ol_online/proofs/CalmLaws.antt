@@ -3,9 +3,9 @@ use Rattle.std.specs.Prelude.{Err, List, Ok, Option, Result, Some, [], length, r
 use Rattle.std.proofs.Common.{arith, inl, inr, subst, sym, ◌∙◌}
 use Rattle.ol_chunks.specs.Reading.{config_of}
 use Rattle.ol_format.specs.First.{AreLarge, IsFirstSmall, chunks_of}
-use Rattle.ol_model.specs.Config.{Config}
-use Rattle.ol_model.specs.declared.history.Entry.{Entry}
-use Rattle.ol_model.specs.declared.line.Line.{Line}
+use Rattle.ol_values.specs.Config.{Config}
+use Rattle.ol_values.specs.declared.history.Entry.{Entry}
+use Rattle.ol_values.specs.declared.line.Line.{Line}
 use Rattle.ol_outside.specs.Causes.{IsCalm, Rose}
 use Rattle.ol_outside.specs.Disk.{Bytes, Past}
 use Rattle.ol_outside.specs.Drive.{capacity}
@@ -96,14 +96,14 @@ prepared_is : (left : Option (List ℕ)) (tells : Type 0) (d : Bytes) (sizes : �
     → IsPlayable left tells d sizes lines c n → IsPrepared left tells d sizes given found plan → (given ≡ lines) × (found ≡ c) × (plan ≡ Ok n)
 prepared_is left tells d sizes lines c n given found plan p q =
     let read : given ≡ lines = (let first = q.says p.bytes p.reads in let second = p.script in cc) in
-    let opened : found ≡ c = (let first = (q.opens p.told).only p.anchor p.newest in let one = first.1 in let two = p.opens.1 in cc) in
+    let opened : found ≡ c = (let first = q.opens.only p.told p.anchor p.newest in let one = first.1 in let two = p.opens.1 in cc) in
     (read, opened, (let first = q.plans in let second = p.plans in cc))
 
 calm_unplayed : (left : Option (List ℕ)) (before after : ℕ) (tells : Type 0) (d : Bytes) (sizes : ℕ → ℕ) (lines : List Line) (c : Config) (n : ℕ) (status : Status)
     → IsPlayable left tells d sizes lines c n → IsCalm before after → ((chunk : ℕ) → status ≡ DiskFault chunk → ⊥) → EndsUnplayed left before after tells d sizes status → status ≡ NoMemory
 calm_unplayed left before after tells d sizes lines c n status p calm no_disk (inl e) = calm_script left p.bytes lines before after status p.reads p.script calm e
 calm_unplayed left before after tells d sizes lines c n status p calm no_disk (inr (inl (given, says, opens))) =
-    calm_opening sizes p.anchor c status p.opens no_disk ((opens p.told).only p.anchor p.newest)
+    calm_opening sizes p.anchor c status p.opens no_disk (opens.only p.told p.anchor p.newest)
 calm_unplayed left before after tells d sizes lines c n status p calm no_disk (inr (inr (given, found, bad, prepared, is))) =
     let same = (prepared_is left tells d sizes lines c n given found (Err bad) p prepared).2 in cc
 

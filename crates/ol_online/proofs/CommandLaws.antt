@@ -7,7 +7,7 @@ use Rattle.std.specs.Io.KnownBytes.{Appends}
 use Rattle.ol_chunks.proofs.AgainLaws.{read_again}
 use Rattle.ol_chunks.specs.Limits.{IsConfig}
 use Rattle.ol_chunks.specs.Reading.{config_of}
-use Rattle.ol_model.specs.Config.{Config, config_text}
+use Rattle.ol_values.specs.Config.{Config, config_text}
 use Rattle.ol_outside.proofs.Moves.{appends_both}
 use Rattle.ol_outside.specs.Disk.{Bytes, Past}
 use Rattle.ol_volume.specs.Written.{Written}
@@ -15,8 +15,8 @@ use Rattle.ol_online.specs.declared.told.Told.TheVariants.{Nothing}
 use Rattle.ol_online.specs.declared.status.Status.{Status}
 use Rattle.ol_online.specs.declared.words.Verb.{Verb}
 use Rattle.ol_online.specs.declared.words.Verb.TheVariants.{Play}
-use Rattle.ol_model.specs.declared.history.Entry.{Entry}
-use Rattle.ol_model.specs.declared.line.Line.{Line}
+use Rattle.ol_values.specs.declared.history.Entry.{Entry}
+use Rattle.ol_values.specs.declared.line.Line.{Line}
 use Rattle.ol_outside.specs.Drive.{Tape}
 use Rattle.ol_volume.specs.declared.writer.TapeEnd.TheVariants.{OutOfTape as OutEnd, TapeFault as FaultEnd}
 use Rattle.ol_online.specs.declared.archive.PlayEnd.{PlayEnd}

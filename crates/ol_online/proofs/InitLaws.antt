@@ -1,7 +1,7 @@
 -- What a formatting tells and leaves, as the command does.
 use Rattle.std.specs.Prelude.{Err, List, Ok, Option, ℕ, ◌≡◌, ◌≢◌, refl}
 use Rattle.std.proofs.Common.{inl, inr, subst}
-use Rattle.ol_model.specs.Config.{Config}
+use Rattle.ol_values.specs.Config.{Config}
 use Rattle.ol_outside.specs.Causes.{Rose}
 use Rattle.ol_outside.specs.Disk.{Bytes, Past}
 use Rattle.ol_format.proofs.Stops.{gates_none, stops_none, stops_weaker}

@@ -2,32 +2,32 @@
 use Rattle.std.specs.Prelude.{List, None, Option, Some, [], false, is_some, length, map, replicate, suc, true, unwrap_or, zero, ℕ, ◌++◌, ◌∷◌, ◌≡◌, refl}
 use Rattle.std.proofs.Common.{ap, arith, inl, inr, subst, sym, ◌∙◌}
 use Rattle.std.proofs.lemmas.List.{map-append}
-use Rattle.ol_model.specs.declared.event.Event.{Event}
-use Rattle.ol_model.specs.declared.event.Event.TheVariants.{ArchiveCancel, ArchiveEnd, ArchiveStart, Begin as BeginTurn, Commit as CommitTurn, Insert as InsertTurn}
-use Rattle.ol_model.specs.declared.event.Reply.{Reply}
-use Rattle.ol_model.specs.declared.event.Reply.TheVariants.{OutOfTape as OutReply, TapeFault as FaultReply}
-use Rattle.ol_model.specs.declared.event.Why.{Why}
-use Rattle.ol_model.specs.declared.event.Why.TheVariants.{Asked, Fault, Full}
-use Rattle.ol_model.specs.declared.history.Actor.{Actor}
-use Rattle.ol_model.specs.declared.history.Actor.TheVariants.{Archiver, Session}
-use Rattle.ol_model.specs.declared.history.By.{By}
-use Rattle.ol_model.specs.declared.history.Entry.{Entry}
-use Rattle.ol_model.specs.declared.line.Form.{Form}
-use Rattle.ol_model.specs.declared.line.Form.TheVariants.{Archive as ArchiveLine}
-use Rattle.ol_model.specs.declared.line.Line.{Line}
-use Rattle.ol_model.specs.declared.record.Rid.{Rid}
-use Rattle.ol_model.specs.declared.row.Row.{Row}
-use Rattle.ol_model.specs.Archivers.{cancel_turn, end_at, end_with, given_up, spaces_named, start_turn, start_with}
-use Rattle.ol_model.specs.Config.{Config}
-use Rattle.ol_model.specs.History.{Happening, well}
-use Rattle.ol_model.specs.Lines.{Ending, First, GivingUp, Outside, Stage, Taking, all_well, event_at, stage_after}
-use Rattle.ol_model.specs.Machine.{Archive, Machine, Work, archive_of, formatted, journal_in, left_of, seat_of}
-use Rattle.ol_model.specs.Sessions.{begin_at, commit_at, insert_at, insert_by, insert_into}
-use Rattle.ol_model.specs.Turns.{given_by, turn}
+use Rattle.ol_values.specs.declared.event.Event.{Event}
+use Rattle.ol_values.specs.declared.event.Event.TheVariants.{ArchiveCancel, ArchiveEnd, ArchiveStart, Begin as BeginTurn, Commit as CommitTurn, Insert as InsertTurn}
+use Rattle.ol_values.specs.declared.event.Reply.{Reply}
+use Rattle.ol_values.specs.declared.event.Reply.TheVariants.{OutOfTape as OutReply, TapeFault as FaultReply}
+use Rattle.ol_values.specs.declared.event.Why.{Why}
+use Rattle.ol_values.specs.declared.event.Why.TheVariants.{Asked, Fault, Full}
+use Rattle.ol_values.specs.declared.history.Actor.{Actor}
+use Rattle.ol_values.specs.declared.history.Actor.TheVariants.{Archiver, Session}
+use Rattle.ol_values.specs.declared.history.By.{By}
+use Rattle.ol_values.specs.declared.history.Entry.{Entry}
+use Rattle.ol_values.specs.declared.line.Form.{Form}
+use Rattle.ol_values.specs.declared.line.Form.TheVariants.{Archive as ArchiveLine}
+use Rattle.ol_values.specs.declared.line.Line.{Line}
+use Rattle.ol_values.specs.declared.record.Rid.{Rid}
+use Rattle.ol_values.specs.declared.row.Row.{Row}
+use Rattle.ol_core.specs.Archivers.{cancel_turn, end_at, end_with, given_up, spaces_named, start_turn, start_with}
+use Rattle.ol_values.specs.Config.{Config}
+use Rattle.ol_core.specs.History.{Happening, well}
+use Rattle.ol_core.specs.Lines.{Ending, First, GivingUp, Outside, Stage, Taking, all_well, event_at, stage_after}
+use Rattle.ol_core.specs.Machine.{Archive, Machine, Work, archive_of, formatted, journal_in, left_of, seat_of}
+use Rattle.ol_core.specs.Sessions.{begin_at, commit_at, insert_at, insert_by, insert_into}
+use Rattle.ol_core.specs.Turns.{given_by, turn}
 use Rattle.ol_core.specs.Core.{Seen, ShowsCount, Takes}
 use Rattle.ol_online.specs.Playing.{EndsPlay, IsArchiveLine, IsNamed, Job, job_of, names_in, EndsTape, EndsWell, GaveUp, Interrupts, IsBegun, IsOnTape, IsReached, IsRunning, IsTurned, IsWaiting, and_blocks, at_stage, IsReason, drive_in, faults_in, reply_of, whole_archive}
 use Rattle.ol_online.specs.declared.archive.PlayEnd.TheVariants.{NoMemory, Tape as TapeStop}
-use Rattle.ol_model.specs.Blocks.{Block}
+use Rattle.ol_values.specs.Blocks.{Block}
 use Rattle.ol_outside.specs.Drive.{stream_of}
 use Rattle.ol_volume.specs.Written.{Written}
 use Rattle.ol_online.proofs.ArchiveLaws.{every_block, machine_is, machine_of, passing, same_stream}

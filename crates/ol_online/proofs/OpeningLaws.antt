@@ -1,7 +1,7 @@
 -- What the opening of a disk gives, from what its anchor pair gives.
 use Rattle.std.specs.Prelude.{Err, IsErrOf, List, None, Ok, Result, Some, ℕ, ◌<◌, ◌≡◌, refl}
 use Rattle.std.proofs.Common.{subst, sym, ◌∙◌}
-use Rattle.ol_model.specs.Config.{Config}
+use Rattle.ol_values.specs.Config.{Config}
 use Rattle.ol_outside.specs.Causes.{Rose}
 use Rattle.ol_outside.specs.Disk.{Bytes}
 use Rattle.ol_reserve.specs.Pair.{HasFaultCause, IsAnswer, IsDamaged, Newest}
@@ -11,7 +11,7 @@ use Rattle.ol_reserve.specs.declared.pair.ReserveFault.TheVariants.{BadDisk as D
 use Rattle.ol_online.specs.declared.status.NotReady.TheVariants.{Blank, Restoring}
 use Rattle.ol_online.specs.declared.status.Status.{Status}
 use Rattle.ol_online.specs.declared.status.Status.TheVariants.{BadConfig, BadDisk, BadScript, BadWords, DiskFault, NoMemory, NotReady, Ok as Done, OutOfTape, ReadFault, TapeFault, TooSmall, WriteFault}
-use Rattle.ol_online.specs.Opening.{EndsOpening, HasStatusCause, IsOpened, OpensTable, status_of_reserve}
+use Rattle.ol_online.specs.Opening.{EndsOpening, HasStatusCause, IsOpened, OpensTable, OpensTo, status_of_reserve}
 
 -- the newest anchor, and what is opened of it
 pub opened : (d : Bytes) (sizes : ℕ → ℕ) (a : Anchor) (r : Result Config Status) → Newest d (Some a) → OpensTable sizes a r → EndsOpening d sizes r
@@ -32,14 +32,20 @@ opened d sizes a (Err (TapeFault drive)) n o = absurd o
 opened d sizes a (Err (OutOfTape drive)) n o = absurd o
 
 -- a pair that gives no anchor
-pub refused : (d : Bytes) (sizes before now : ℕ → ℕ) (fault : ReserveFault)
+pub refused : (d : Bytes) (sizes : ℕ → ℕ) (fault : ReserveFault)
     → (IsErrOf {T = Unit {0}} (Err fault) BlankPair → Newest d None)
-    → ((chunk page : ℕ) → IsErrOf {T = Unit {0}} (Err fault) (Damaged chunk page) → (chunk ≡ 0) × (page < 2) × IsDamaged d page)
-    → HasFaultCause {T = Unit {0}} before now (Err fault) → EndsOpening d sizes (Err (status_of_reserve fault))
-refused d sizes before now BlankPair blank bad cause = blank refl
-refused d sizes before now (Damaged chunk page) blank bad cause = bad chunk page refl
-refused d sizes before now (Fault chunk) blank bad cause = (cause.fault chunk refl).0
-refused d sizes before now Starved blank bad cause = search
+    → ((chunk page : ℕ) → IsErrOf {T = Unit {0}} (Err fault) (Damaged chunk page) → IsDamaged d page) → EndsOpening d sizes (Err (status_of_reserve fault))
+refused d sizes BlankPair blank bad = blank refl
+refused d sizes (Damaged chunk page) blank bad = bad chunk page refl
+refused d sizes (Fault chunk) blank bad = tt
+refused d sizes Starved blank bad = tt
+
+pub refused_to : (sizes before now : ℕ → ℕ) (fault : ReserveFault) → ((chunk page : ℕ) → IsErrOf {T = Unit {0}} (Err fault) (Damaged chunk page) → (chunk ≡ 0) × (page < 2))
+    → HasFaultCause {T = Unit {0}} before now (Err fault) → OpensTo sizes (Err (status_of_reserve fault))
+refused_to sizes before now BlankPair place cause = tt
+refused_to sizes before now (Damaged chunk page) place cause = place chunk page refl
+refused_to sizes before now (Fault chunk) place cause = (cause.fault chunk refl).0
+refused_to sizes before now Starved place cause = tt
 
 -- whichever anchor is named the newest, its bytes are those that were read
 pub only_opened : (sizes : ℕ → ℕ) (a : Anchor) (r : Result Config Status) → OpensTable sizes a r → IsOpened sizes a r

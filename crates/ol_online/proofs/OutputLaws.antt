@@ -3,10 +3,10 @@ use Rattle.std.proofs.Common.{Bool, Err, Ok, OnErr, Result, List, Option, Some, 
 use Rattle.std.proofs.lemmas.List.{drop_more, take-append-drop, take_rest}
 use Rattle.std.proofs.Math.Seq.{take-append_seam}
 use Rattle.std.specs.Io.KnownBytes.{Appends}
-use Rattle.ol_model.specs.Config.{Config}
-use Rattle.ol_model.specs.declared.history.Entry.{Entry}
-use Rattle.ol_model.specs.Text.{IsInLineOrder, entry_text, is_followed, text}
-use Rattle.ol_model.proofs.TextLaws.{is_followed-next}
+use Rattle.ol_values.specs.Config.{Config}
+use Rattle.ol_values.specs.declared.history.Entry.{Entry}
+use Rattle.ol_values.specs.Text.{IsInLineOrder, entry_text, is_followed, text}
+use Rattle.ol_core.proofs.TextLaws.{is_followed-next}
 use Rattle.ol_outside.proofs.Moves.{appends_both}
 
 -- of this whole all but `left` was written

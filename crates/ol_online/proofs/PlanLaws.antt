@@ -7,13 +7,13 @@ use Rattle.std.proofs.Common.{ap, arith, cond, get_or, subst, sym, ◌∙◌}
 use Rattle.std.proofs.lemmas.Bool.{eqb-true}
 use Rattle.std.proofs.lemmas.List.{take-append-drop}
 use Rattle.std.specs.List.{position_or_len}
-use Rattle.ol_model.specs.Archivers.{cons_space, spaces_named}
-use Rattle.ol_model.specs.Config.{Config, is_name, space_named}
-use Rattle.ol_model.specs.declared.history.Actor.{Actor}
-use Rattle.ol_model.specs.declared.history.Actor.TheVariants.{Archiver, Backer, Checkpointer, Flusher, Session, Warmer}
-use Rattle.ol_model.specs.declared.line.Form.{Form}
-use Rattle.ol_model.specs.declared.line.Form.TheVariants.{Archive, Begin, Commit, Insert}
-use Rattle.ol_model.specs.declared.line.Line.{Line}
+use Rattle.ol_core.specs.Archivers.{cons_space, spaces_named}
+use Rattle.ol_values.specs.Config.{Config, is_name, space_named}
+use Rattle.ol_values.specs.declared.history.Actor.{Actor}
+use Rattle.ol_values.specs.declared.history.Actor.TheVariants.{Archiver, Backer, Checkpointer, Flusher, Session, Warmer}
+use Rattle.ol_values.specs.declared.line.Form.{Form}
+use Rattle.ol_values.specs.declared.line.Form.TheVariants.{Archive, Begin, Commit, Insert}
+use Rattle.ol_values.specs.declared.line.Line.{Line}
 use Rattle.ol_script.specs.Spelling.{IsLine, IsLineForm}
 use Rattle.ol_online.specs.Command.{archive_line_in, first_of}
 use Rattle.ol_online.specs.Planning.{is_archive_form, is_archive_line, is_archiver_1, is_session_1, is_session_form, is_session_line, is_space, is_there, planned, planned_behind, session_count}

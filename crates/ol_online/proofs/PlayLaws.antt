@@ -2,19 +2,20 @@
 use Rattle.std.specs.Prelude.{Bool, List, None, Option, Some, [], length, map, true, ℕ, ◌++◌, ◌+◌, ◌∷◌, ◌≡◌, ◌⊎◌, refl}
 use Rattle.std.proofs.Common.{ap, arith, length-append, subst, sym, ◌∙◌}
 use Rattle.std.proofs.lemmas.List.{map-append}
-use Rattle.ol_model.specs.declared.event.Event.{Event}
-use Rattle.ol_model.specs.declared.event.Reply.{Reply}
-use Rattle.ol_model.specs.declared.event.Why.{Why}
-use Rattle.ol_model.specs.declared.history.By.{By}
-use Rattle.ol_model.specs.declared.history.Entry.{Entry}
-use Rattle.ol_model.specs.declared.line.Line.{Line}
-use Rattle.ol_model.specs.Config.{Config}
-use Rattle.ol_model.specs.History.{Ascends, Happening, IsTurnOf, Leads, Legal, Plays, Position, journal_of, state_at, first_or, lines_after, position_at, start_of, state_after, well}
-use Rattle.ol_model.specs.Lines.{First, Outside, Stage, all_well, event_at, goes_on, stage_after}
-use Rattle.ol_model.specs.Machine.{Machine, formatted, journal_in}
-use Rattle.ol_model.specs.Text.{IsInLineOrder}
-use Rattle.ol_model.proofs.HistoryLaws.{leads_on, legal, state_led}
-use Rattle.ol_model.proofs.TextLaws.{in_line_order}
+use Rattle.ol_values.specs.declared.event.Event.{Event}
+use Rattle.ol_values.specs.declared.event.Reply.{Reply}
+use Rattle.ol_values.specs.declared.event.Why.{Why}
+use Rattle.ol_values.specs.declared.history.By.{By}
+use Rattle.ol_values.specs.declared.history.Entry.{Entry}
+use Rattle.ol_values.specs.declared.line.Line.{Line}
+use Rattle.ol_values.specs.Config.{Config}
+use Rattle.ol_rules.specs.Scripts.{Ascends}
+use Rattle.ol_core.specs.History.{Happening, IsTurnOf, Leads, Legal, Plays, Position, journal_of, state_at, first_or, lines_after, position_at, start_of, state_after, well}
+use Rattle.ol_core.specs.Lines.{First, Outside, Stage, all_well, event_at, goes_on, stage_after}
+use Rattle.ol_core.specs.Machine.{Machine, formatted, journal_in}
+use Rattle.ol_values.specs.Text.{IsInLineOrder}
+use Rattle.ol_core.proofs.HistoryLaws.{leads_on, legal, state_led}
+use Rattle.ol_core.proofs.TextLaws.{in_line_order}
 use Rattle.ol_core.specs.Core.{Seen, Takes, entry_of}
 use Rattle.ol_online.specs.Playing.{IsReached, IsRun, IsTurned, at_stage}
 

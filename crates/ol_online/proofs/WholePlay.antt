@@ -2,13 +2,13 @@
 use Rattle.std.specs.Prelude.{Bool, Err, IfErr, List, Ok, OnOk, Option, Result, Some, None, [], drop, length, map, true, false, ℕ, ◌++◌, ◌+◌, ◌<◌, ◌∷◌, ◌≡◌, refl}
 use Rattle.std.proofs.Common.{ap, arith, get_or, inl, subst, sym, ◌∙◌}
 use Rattle.std.proofs.lemmas.List.{drop_more}
-use Rattle.ol_model.specs.declared.line.Line.{Line}
-use Rattle.ol_model.specs.declared.record.Record.{Record}
-use Rattle.ol_model.specs.Config.{Config}
-use Rattle.ol_model.specs.History.{Ascends}
-use Rattle.ol_model.specs.Lines.{First}
-use Rattle.ol_model.specs.Machine.{journal_in}
-use Rattle.ol_model.specs.Text.{IsInLineOrder}
+use Rattle.ol_values.specs.declared.line.Line.{Line}
+use Rattle.ol_values.specs.declared.record.Record.{Record}
+use Rattle.ol_values.specs.Config.{Config}
+use Rattle.ol_rules.specs.Scripts.{Ascends}
+use Rattle.ol_core.specs.Lines.{First}
+use Rattle.ol_core.specs.Machine.{journal_in}
+use Rattle.ol_values.specs.Text.{IsInLineOrder}
 use Rattle.ol_object.specs.Bytes.{bytes_of}
 use Rattle.ol_outside.specs.Drive.{stream_of}
 use Rattle.ol_volume.specs.Written.{Written}

@@ -1,9 +1,9 @@
 -- The parts of the blocks of an archive.
 use Rattle.std.specs.Prelude.{List, length, ℕ, ◌≡◌}
-use Rattle.ol_model.specs.declared.record.Record.{Record}
-use Rattle.ol_model.specs.Blocks.{ArchiveHead}
-use Rattle.ol_model.specs.Journal.{page_at}
-use Rattle.ol_model.specs.Saveset.{SavedPage}
+use Rattle.ol_values.specs.declared.record.Record.{Record}
+use Rattle.ol_values.specs.Blocks.{ArchiveHead}
+use Rattle.ol_rules.specs.Journal.{page_at}
+use Rattle.ol_values.specs.Blocks.{SavedPage}
 use Rattle.ol_object.specs.Bytes.{archive_head_bytes, padded_to}
 
 -- a page after the journal

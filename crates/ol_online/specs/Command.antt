@@ -1,10 +1,10 @@
 -- How a command over a rig ended.
 use Rattle.std.specs.Prelude.{Err, List, None, Ok, Option, Result, Some, [], codes, drop, take, ℕ, ◌++◌, ◌∷◌, ◌≡◌, ◌≢◌, ◌⊎◌}
 use Rattle.std.specs.Io.KnownBytes.{Appends}
-use Rattle.ol_model.specs.declared.history.Entry.{Entry}
-use Rattle.ol_model.specs.declared.line.Line.{Line}
-use Rattle.ol_model.specs.Config.{Config}
-use Rattle.ol_model.specs.Text.{text}
+use Rattle.ol_values.specs.declared.history.Entry.{Entry}
+use Rattle.ol_values.specs.declared.line.Line.{Line}
+use Rattle.ol_values.specs.Config.{Config}
+use Rattle.ol_values.specs.Text.{text}
 use Rattle.ol_outside.specs.Causes.{IsCalm, Rose}
 use Rattle.ol_outside.specs.Disk.{Bytes, Past}
 use Rattle.ol_outside.specs.Drive.{Tape}
@@ -93,7 +93,7 @@ IsUnplayed w told v = (told ≡ Nothing) × (v ≡ w)
 -- what was read and opened, and how much of it is built
 pub record IsPrepared (left : Option (List ℕ)) (tells : Type 0) (d : Bytes) (sizes : ℕ → ℕ) (lines : List Line) (c : Config) (plan : Result ℕ ℕ) : Type 0 where
   pub says : Says left (Ok lines)
-  pub opens : tells → IsOpening d sizes (Ok c)
+  pub opens : IsOpening tells d sizes (Ok c)
   pub plans : planned c lines ≡ plan
 
 -- the lines that are played, the configuration that they are played over, and how the play ended
@@ -106,7 +106,7 @@ pub record IsPlayed (c : Config) (lines : List Line) (n : ℕ) (w : Written) (to
 abbrev pub EndsUnplayed : Option (List ℕ) → ℕ → ℕ → Type 0 → Bytes → (ℕ → ℕ) → Status → Type 0
 EndsUnplayed left before after tells d sizes status =
     EndsScript left before after (Err status)
-    ⊎ ((lines : List Line) × Says left (Ok lines) × (tells → IsOpening d sizes (Err status)))
+    ⊎ ((lines : List Line) × Says left (Ok lines) × IsOpening tells d sizes (Err status))
     ⊎ ((lines : List Line) × (c : Config) × (n : ℕ) × IsPrepared left tells d sizes lines c (Err n) × (status ≡ BadScript n))
 
 -- how a play ended: the source's bytes and counts of faults, the disk's bytes and sizes, drive 1 before and after, what is told and the status

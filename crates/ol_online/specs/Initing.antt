@@ -1,14 +1,13 @@
 -- What the formatting of a disk for the configuration of a source gives.
-use Rattle.std.specs.Prelude.{Err, IsErrOf, List, None, Ok, Option, Result, Some, take, ℕ, ◌≡◌, ◌≢◌, ◌⊎◌}
-use Rattle.ol_model.specs.Config.{Config}
+use Rattle.std.specs.Prelude.{Err, IsErrOf, List, Ok, Option, Result, Some, take, ℕ, ◌≡◌, ◌≢◌, ◌⊎◌}
+use Rattle.ol_values.specs.Config.{Config}
 use Rattle.ol_outside.specs.Causes.{Rose}
 use Rattle.ol_outside.specs.Disk.{Bytes, Past, Rest}
 use Rattle.ol_chunks.specs.Reading.{config_of}
-use Rattle.ol_format.specs.First.{AreLarge, IsFirstSmall, chunks_of, first_anchor}
-use Rattle.ol_format.specs.Formatted.{FramedByGates, IsFormatted}
+use Rattle.ol_format.specs.First.{AreLarge, IsFirstSmall, chunks_of}
+use Rattle.ol_format.specs.Formatted.{FramedByGates, IsBlankOrFormatted, IsFormatted}
 use Rattle.ol_format.specs.declared.FormatFault.{FormatFault}
 use Rattle.ol_format.specs.declared.FormatFault.TheVariants.{DiskFault as Fault, TooSmall as Small}
-use Rattle.ol_reserve.specs.Pair.{IsOneOf}
 use Rattle.ol_online.specs.declared.status.Status.{Status}
 use Rattle.ol_online.specs.declared.status.Status.TheVariants.{BadConfig, DiskFault, NoMemory, ReadFault, TooSmall}
 
@@ -46,9 +45,9 @@ EndsInit left before after tells sizes past result = (c : Config) × SaysConfig 
 abbrev pub LeavesDisk : {D : Type 0} → Result Unit Status → D → D → Type 0
 LeavesDisk result before now = (status : Status) → IsErrOf result status → ((chunk : ℕ) → status ≢ DiskFault chunk) → now ≡ before
 
--- what a stop within the command leaves: what a stop before it might have left, but for the gates of the anchor pair; or no anchor, or the first one of the configuration that was read
+-- what a stop within the command leaves: what a stop before it might have left, but for the gates of the anchor pair; or no anchor, or a disk formatted for the configuration that was read
 abbrev pub IsInitBetween : Option (List ℕ) → Past → Bytes → Type 0
-IsInitBetween left past d = FramedByGates past d ⊎ ((c : Config) × SaysConfig left (Ok c) × IsOneOf None (Some (first_anchor c)) d)
+IsInitBetween left past d = FramedByGates past d ⊎ ((c : Config) × SaysConfig left (Ok c) × IsBlankOrFormatted c d)
 
 -- the status of a disk that was not formatted
 abbrev pub status_of_format : FormatFault → Status

@@ -1,6 +1,6 @@
 -- What the opening of a disk gives.
 use Rattle.std.specs.Prelude.{Err, None, Ok, Result, Some, ℕ, ◌<◌, ◌≡◌, ◌≢◌, ◌≤◌}
-use Rattle.ol_model.specs.Config.{Config}
+use Rattle.ol_values.specs.Config.{Config}
 use Rattle.ol_outside.specs.Causes.{Rose}
 use Rattle.ol_outside.specs.Disk.{Bytes}
 use Rattle.ol_chunks.specs.Reading.{config_of}
@@ -24,8 +24,8 @@ OpensTable sizes a _ = ⊥
 -- what the opening of a disk of these bytes and sizes gives: what its newest anchor says, or why there is none
 abbrev pub EndsOpening : Bytes → (ℕ → ℕ) → Result Config Status → Type 0
 EndsOpening d sizes (Err (NotReady Blank)) = Newest d None
-EndsOpening d sizes (Err (BadDisk chunk page)) = (chunk ≡ 0) × (page < 2) × IsDamaged d page
-EndsOpening d sizes (Err (DiskFault chunk)) = chunk ≡ 0
+EndsOpening d sizes (Err (BadDisk chunk page)) = IsDamaged d page
+EndsOpening d sizes (Err (DiskFault chunk)) = Unit {0}
 EndsOpening d sizes (Err NoMemory) = Unit {0}
 EndsOpening d sizes result = (a : Anchor) × Newest d (Some a) × OpensTable sizes a result
 
@@ -34,10 +34,21 @@ abbrev pub IsOpened : (ℕ → ℕ) → Anchor → Result Config Status → Type
 IsOpened sizes a (Err (DiskFault chunk)) = chunk ≡ 0
 IsOpened sizes a result = OpensTable sizes a result
 
--- how the opening of a disk ended: why, and that it is what the newest anchor says, whichever is named
-pub record IsOpening (d : Bytes) (sizes : ℕ → ℕ) (result : Result Config Status) : Type 0 where
-  pub why : EndsOpening d sizes result
-  pub only : (a : Anchor) → Newest d (Some a) → IsOpened sizes a result
+-- what an opening may end with, also where the disk does not tell its bytes
+abbrev pub OpensTo : (ℕ → ℕ) → Result Config Status → Type 0
+OpensTo sizes (Ok c) = AreLarge sizes c (chunks_of c)
+OpensTo sizes (Err (NotReady state)) = Unit {0}
+OpensTo sizes (Err (BadDisk chunk page)) = (chunk ≡ 0) × (page < 2)
+OpensTo sizes (Err (TooSmall chunk)) = (c : Config) × IsFirstSmall sizes c chunk
+OpensTo sizes (Err (DiskFault chunk)) = chunk ≡ 0
+OpensTo sizes (Err NoMemory) = Unit {0}
+OpensTo sizes _ = ⊥
+
+-- how the opening of a disk ended: with what; where the disk tells, why, and that it is what the newest anchor says, whichever is named
+pub record IsOpening (tells : Type 0) (d : Bytes) (sizes : ℕ → ℕ) (result : Result Config Status) : Type 0 where
+  pub ends : OpensTo sizes result
+  pub why : tells → EndsOpening d sizes result
+  pub only : tells → (a : Anchor) → Newest d (Some a) → IsOpened sizes a result
 
 -- the counts of faults never fall, a fault of the disk raises that of its chunk, and with no other status any is changed
 pub record HasStatusCause (before now : ℕ → ℕ) (status : Status) : Type 0 where
@@ -58,6 +69,13 @@ TellsTable a (Ok c) = (a.state ≡ 1) × (config_of a.text ≡ Ok c)
 TellsTable a (Err (NotReady Restoring)) = a.state ≡ 2
 TellsTable a (Err NoMemory) = Unit {0}
 TellsTable a _ = ⊥
+
+-- what the reading of an anchor may end with
+abbrev pub TellsTo : Result Config Status → Type 0
+TellsTo (Ok c) = Unit {0}
+TellsTo (Err (NotReady Restoring)) = Unit {0}
+TellsTo (Err NoMemory) = Unit {0}
+TellsTo _ = ⊥
 
 -- the status of a pair that gives no anchor
 abbrev pub status_of_reserve : ReserveFault → Status

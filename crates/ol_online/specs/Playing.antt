@@ -1,25 +1,26 @@
 -- How far a play of lines has come, and what it has put on tape.
 use Rattle.std.specs.Option.{option_map}
 use Rattle.std.specs.Prelude.{Bool, List, None, Option, Some, [], drop, false, is_some, length, map, option_to_list, replicate, suc, take, true, unwrap_or, ℕ, ◌++◌, ◌+◌, ◌<◌, ◌∷◌, ◌≡◌, ◌≤◌, ◌⊎◌}
-use Rattle.ol_model.specs.declared.event.Reply.{Reply}
-use Rattle.ol_model.specs.declared.event.Reply.TheVariants.{OutOfTape as OutReply, TapeFault as FaultReply}
-use Rattle.ol_model.specs.declared.event.Why.{Why}
-use Rattle.ol_model.specs.declared.event.Why.TheVariants.{Fault, Full}
-use Rattle.ol_model.specs.declared.history.Entry.{Entry}
-use Rattle.ol_model.specs.declared.history.Actor.TheVariants.{Archiver, Session}
-use Rattle.ol_model.specs.declared.line.Form.{Form}
-use Rattle.ol_model.specs.declared.line.Form.TheVariants.{Archive as ArchiveLine, Begin as BeginLine, Commit as CommitLine, Insert as InsertLine}
-use Rattle.ol_model.specs.declared.line.Line.{Line}
-use Rattle.ol_model.specs.declared.record.Record.{Record}
-use Rattle.ol_model.specs.Archivers.{saved_of, spaces_named}
-use Rattle.ol_model.specs.Blocks.{ArchiveHead, Block}
-use Rattle.ol_model.specs.Config.{Config, config_text}
-use Rattle.ol_model.specs.History.{Happening, Leads, Legal, Plays, Position, first_or, journal_of, start_of, well}
-use Rattle.ol_model.specs.Lines.{Ending, First, Outside, Stage, Taking, goes_on}
-use Rattle.ol_model.specs.Machine.{Archive, archive_of, formatted, journal_in, left_of}
-use Rattle.ol_model.specs.Saveset.{Saved, places}
-use Rattle.ol_model.specs.Tape.{archive_blocks}
-use Rattle.ol_model.specs.Transactions.{low_at}
+use Rattle.ol_values.specs.declared.event.Reply.{Reply}
+use Rattle.ol_values.specs.declared.event.Reply.TheVariants.{OutOfTape as OutReply, TapeFault as FaultReply}
+use Rattle.ol_values.specs.declared.event.Why.{Why}
+use Rattle.ol_values.specs.declared.event.Why.TheVariants.{Fault, Full}
+use Rattle.ol_values.specs.declared.history.Entry.{Entry}
+use Rattle.ol_values.specs.declared.history.Actor.TheVariants.{Archiver, Session}
+use Rattle.ol_values.specs.declared.line.Form.{Form}
+use Rattle.ol_values.specs.declared.line.Form.TheVariants.{Archive as ArchiveLine, Begin as BeginLine, Commit as CommitLine, Insert as InsertLine}
+use Rattle.ol_values.specs.declared.line.Line.{Line}
+use Rattle.ol_values.specs.declared.record.Record.{Record}
+use Rattle.ol_core.specs.Archivers.{saved_of, spaces_named}
+use Rattle.ol_values.specs.Blocks.{ArchiveHead, Block}
+use Rattle.ol_values.specs.Config.{Config, config_text}
+use Rattle.ol_core.specs.History.{Happening, Leads, Legal, Plays, Position, first_or, journal_of, start_of, well}
+use Rattle.ol_core.specs.Lines.{Ending, First, Outside, Stage, Taking, goes_on}
+use Rattle.ol_core.specs.Machine.{Archive, archive_of, formatted, journal_in, left_of}
+use Rattle.ol_values.specs.Blocks.{Saved}
+use Rattle.ol_rules.specs.Saveset.{places}
+use Rattle.ol_core.specs.Tape.{archive_blocks}
+use Rattle.ol_rules.specs.Transactions.{low_at}
 use Rattle.ol_object.specs.Bytes.{bytes_of}
 use Rattle.ol_outside.specs.Causes.{Rose}
 use Rattle.ol_outside.specs.Drive.{Tape, capacity, stream_of}

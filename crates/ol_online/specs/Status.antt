@@ -1,6 +1,6 @@
 -- The numbers and the texts of statuses.
 use Rattle.std.specs.Prelude.{List, [], codes, ℕ, ◌++◌, ◌∷◌}
-use Rattle.ol_model.specs.Text.{counted}
+use Rattle.ol_values.specs.Text.{counted}
 use Rattle.ol_online.specs.declared.status.NotReady.{NotReady as Unready}
 use Rattle.ol_online.specs.declared.status.NotReady.TheVariants.{Blank, Restoring}
 use Rattle.ol_online.specs.declared.status.Status.{Status}

@@ -2,27 +2,27 @@
 
 ghost use Rattle.std.specs.Bool.{OnTrue};
 ghost use Rattle.std.specs.Prelude.{◌≡◌, ◌+◌, ◌<◌, ◌≤◌, ℕ, map, IfOk, IfErr, OnOk, OnErr, length, List, [], ◌∷◌, MatchBool};
-ghost use Rattle.ol_model.specs.Blocks.{archive_page};
-ghost use Rattle.ol_model.specs.Journal.{page_at};
-ghost use Rattle.ol_model.specs.Lines.{Ending, First, Stage};
-ghost use Rattle.ol_model.specs.Machine.{Fixed, config_of, formatted, journal_in};
-ghost use Rattle.ol_model.specs.Tape.{end_block, head_at};
-ghost use Rattle.ol_model.specs.declared.line.Line.{Line};
-ghost use Rattle.ol_model.specs.declared.record.Record.{Record};
+ghost use Rattle.ol_values.specs.Blocks.{archive_page};
+ghost use Rattle.ol_rules.specs.Journal.{page_at};
+ghost use Rattle.ol_core.specs.Lines.{Ending, First, Stage};
+ghost use Rattle.ol_core.specs.Machine.{Fixed, config_of, formatted, journal_in};
+ghost use Rattle.ol_core.specs.Tape.{end_block, head_at};
+ghost use Rattle.ol_values.specs.declared.line.Line.{Line};
+ghost use Rattle.ol_values.specs.declared.record.Record.{Record};
 ghost use Rattle.ol_object.specs.Bytes.{archive_head_bytes, bytes_of, padded_to};
 ghost use Rattle.ol_volume.specs.Written.{Puts, EndsPut, Written};
 ghost use Rattle.ol_core.specs.Core.{archive_in};
 ghost use Rattle.ol_core.specs.Filled.{saved_in};
 ghost use Rattle.ol_object.specs.Spaces.{saved_of};
-ghost use Rattle.ol_model.specs.Config.{Config, data_pages};
+ghost use Rattle.ol_values.specs.Config.{Config, data_pages};
 ghost use Rattle.ol_online.specs.Blocks.{IsHead, page_saved};
 ghost use Rattle.ol_online.specs.Playing.{EndsPlay, EndsWell, IsArchiveLine, IsBegun, IsNamed, IsReached, IsRunning, IsTurned, IsWaiting, GaveUp, Job, head_of, job_of, IsReason, drive_in, faults_in, IsCopying, IsCopied, IsOnTape, IsPaged, Interrupts, RefusesPut, pages_left};
 
 use ol_chunks::ChunkTable;
 use ol_core::{Core, Running};
-use ol_model::{By, Form, Line, NoMemory, Reply, Why};
 use ol_object::{ArchiveHead, BLOCK_LENGTH, Block, PAYLOAD_LENGTH, encode};
 use ol_outside::Drive;
+use ol_values::{By, Form, Line, NoMemory, Reply, Why};
 use ol_volume::{TapeEnd, Writer};
 use std::alloc::Global;
 

@@ -16,8 +16,8 @@ ghost use Rattle.std.specs.Prelude.{◌≡◌, ◌≢◌, ◌≤◌, ◌⊎◌, 
 ghost use Rattle.ol_chunks.specs.Reading.{config_of};
 ghost use Rattle.ol_format.specs.First.{AreLarge, chunks_of};
 ghost use Rattle.ol_format.specs.Formatted.{Stops};
-ghost use Rattle.ol_model.specs.Config.{Config};
-ghost use Rattle.ol_model.specs.declared.line.Line.{Line};
+ghost use Rattle.ol_values.specs.Config.{Config};
+ghost use Rattle.ol_values.specs.declared.line.Line.{Line};
 ghost use Rattle.ol_outside.specs.Causes.{IsCalm};
 ghost use Rattle.ol_outside.specs.Disk.{seen};
 ghost use Rattle.ol_outside.specs.Drive.{capacity};
@@ -33,8 +33,8 @@ ghost use Rattle.ol_online.specs.Words.{verb_told};
 
 use crate::told::report;
 use crate::work::work;
-use ol_model::History;
 use ol_outside::{Disk, Drive, Shelf, Sink, Source};
+use ol_values::History;
 pub use output::write_history;
 pub use status::{NotReady, Status, write_status};
 use std::alloc::Global;

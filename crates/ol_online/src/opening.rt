@@ -7,7 +7,7 @@ ghost use Rattle.ol_outside.specs.Disk.{seen};
 ghost use Rattle.ol_reserve.specs.Anchor.{IsAnchor, anchor_bytes};
 ghost use Rattle.ol_reserve.specs.Pair.{IsSpelled, there};
 ghost use Rattle.ol_reserve.specs.declared.anchor.Anchor.{Anchor as AnchorValue};
-ghost use Rattle.ol_online.specs.Opening.{HasDiskCause, IsOpening, OpensTable, TellsTable, status_of_reserve};
+ghost use Rattle.ol_online.specs.Opening.{HasDiskCause, IsOpening, OpensTable, OpensTo, TellsTable, TellsTo, status_of_reserve};
 
 use crate::status::{NotReady, Status};
 use ol_chunks::{ChunkTable, ConfigFault, parse_config};
@@ -25,7 +25,7 @@ const RESTORING: u8 = 2;
 /// restored; `BadDisk` where an open page is damaged; `TooSmall` names the first chunk that has fewer pages than the
 /// configuration says; `DiskFault` comes only where the count of faults of chunk 0 rose.
 pub(crate) fn open<D: Disk>(alloc: Global, disk: &mut D) -> Result<ChunkTable, Status>
-    ensures ended { D.tells → IsOpening (there (D.sizes disk.old) (seen (D.past disk.old))) (D.sizes disk.old) result }
+    ensures ended { IsOpening D.tells (there (D.sizes disk.old) (seen (D.past disk.old))) (D.sizes disk.old) result }
     ensures config { IfOk result IsConfig }
     ensures no_write { IfErr result (λ status. status ≢ Status.WriteFault) }
     ensures cause { HasDiskCause (D.fault_counts disk.old) (D.fault_counts disk.new) result }
@@ -60,6 +60,7 @@ fn open_table<D: Disk>(
     page: &[u8; PAGE_LENGTH],
 ) -> Result<ChunkTable, Status>
     requires { IsSpelled page.now }
+    ensures ends { OpensTo (D.sizes disk.now) result }
     ensures opens { (a : AnchorValue) → IsAnchor a → page.now ≡ anchor_bytes 1 a → OpensTable (D.sizes disk.now) a result }
     ensures config { IfOk result IsConfig }
     ensures no_write { IfErr result (λ status. status ≢ Status.WriteFault) }
@@ -76,6 +77,7 @@ fn open_table<D: Disk>(
 /// The table of an anchor.
 fn table_of(alloc: Global, page: &[u8; PAGE_LENGTH]) -> Result<ChunkTable, Status>
     requires { IsSpelled page.now }
+    ensures ends { TellsTo result }
     ensures tells { (a : AnchorValue) → IsAnchor a → page.now ≡ anchor_bytes 1 a → TellsTable a result }
     ensures config { IfOk result IsConfig }
     ensures no_write { IfErr result (λ status. status ≢ Status.WriteFault) }

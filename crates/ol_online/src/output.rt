@@ -3,12 +3,12 @@
 ghost use Rattle.std.specs.Prelude.{◌≡◌, ◌∷◌, ℕ, OnErr, OnOk, not, take};
 ghost use Rattle.std.specs.Io.KnownBytes.{Appends};
 ghost use Rattle.ol_outside.specs.Causes.{HasCause};
-ghost use Rattle.ol_model.specs.Text.{IsInLineOrder, is_followed, text};
+ghost use Rattle.ol_values.specs.Text.{IsInLineOrder, is_followed, text};
 
 use ol_chunks::ChunkTable;
-use ol_model::Entry;
 use ol_outside::{Failed, Sink, write_all};
 use ol_script::{ENTRY_LIMIT, text as put_text};
+use ol_values::Entry;
 
 /// Writes the text of a history, with the names of the table's spaces: a line for the last entry of each script
 /// line. Where a write fails, the sink took some first part of it.

@@ -6,7 +6,7 @@ ghost use Rattle.ol_online.specs.Planning.{planned, planned_behind, session_coun
 ghost use Rattle.ol_online.specs.Planning.{is_archive_form as archives, is_archive_line as archive_line, is_archiver_1 as archiver_1, is_session_form as session_form, is_session_line as session_line, is_session_1 as session_1, is_space as a_space};
 
 use ol_chunks::{ChunkTable, Name};
-use ol_model::{Actor, Form, Label, Labels, Line};
+use ol_values::{Actor, Form, Label, Labels, Line};
 
 /// Gives how many lines of session 1 stand in front of a script's archive line, or of its end. The error is the number of
 /// the first line that is not built: any but a begin, an insert or a commit of session 1, and a last line of archiver 1

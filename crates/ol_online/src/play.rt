@@ -1,19 +1,19 @@
 //! A play: lines in file order, on one thread.
 
 ghost use Rattle.std.specs.Prelude.{◌≡◌, ◌++◌, ◌∷◌, List, All, IfErr, IfSome, None, OnErr, OnOk, Option, Some, drop, option_to_list, true};
-ghost use Rattle.ol_model.specs.declared.line.Line.{Line};
-ghost use Rattle.ol_model.specs.Config.{Config};
-ghost use Rattle.ol_model.specs.History.{Ascends};
-ghost use Rattle.ol_model.specs.Lines.{First};
-ghost use Rattle.ol_model.specs.Text.{IsInLineOrder};
+ghost use Rattle.ol_values.specs.declared.line.Line.{Line};
+ghost use Rattle.ol_values.specs.Config.{Config};
+ghost use Rattle.ol_rules.specs.Scripts.{Ascends};
+ghost use Rattle.ol_core.specs.Lines.{First};
+ghost use Rattle.ol_values.specs.Text.{IsInLineOrder};
 ghost use Rattle.ol_core.specs.Core.{IsIdle};
 ghost use Rattle.ol_online.specs.Playing.{IsArchiveLine, IsNamed, IsReached, IsRun, IsSessionLine, IsWaiting, PlaysShort, PlaysWell, all_lines, line_in};
 
 use crate::archive::{PlayEnd, archive, by_of};
 use ol_chunks::ChunkTable;
 use ol_core::Core;
-use ol_model::{Form, History, Line, NoMemory};
 use ol_outside::Drive;
+use ol_values::{Form, History, Line, NoMemory};
 use ol_volume::Writer;
 use std::alloc::Global;
 

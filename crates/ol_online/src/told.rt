@@ -2,15 +2,15 @@
 
 ghost use Rattle.std.specs.Prelude.{◌≡◌, ◌≢◌, ℕ, OnErr, OnOk, take};
 ghost use Rattle.std.specs.Io.KnownBytes.{Appends};
-ghost use Rattle.ol_model.specs.Text.{IsInLineOrder};
+ghost use Rattle.ol_values.specs.Text.{IsInLineOrder};
 ghost use Rattle.ol_outside.specs.Causes.{HasCause};
 ghost use Rattle.ol_online.specs.Command.{IsReported, WritesOut, history_in, output_of, told_text};
 
 use crate::output::write_history;
 use crate::status::{Status, write_status};
 use ol_chunks::ChunkTable;
-use ol_model::History;
 use ol_outside::{Failed, Sink, write_all};
+use ol_values::History;
 use std::alloc::Global;
 
 /// What a command has to tell besides its status.

@@ -3,7 +3,7 @@
 ghost use Rattle.std.specs.Prelude.{◌≡◌, ◌++◌, ◌∷◌, [], OnOk, OnErr};
 ghost use Rattle.ol_online.specs.Words.{verb_in};
 
-use ol_model::NoMemory;
+use ol_values::NoMemory;
 use std::alloc::Global;
 use std::marker::Model;
 

@@ -2,9 +2,9 @@
 
 ghost use Rattle.std.specs.Prelude.{◌≡◌, ◌≢◌, ◌≤◌, ℕ, None, Some, All, IfErr, IfOk, IfSome, Ok, length, slice_index_or};
 ghost use Rattle.ol_format.specs.Formatted.{Stops};
-ghost use Rattle.ol_model.specs.Text.{IsInLineOrder};
+ghost use Rattle.ol_values.specs.Text.{IsInLineOrder};
 ghost use Rattle.ol_chunks.specs.Limits.{IsConfig};
-ghost use Rattle.ol_model.specs.History.{Ascends};
+ghost use Rattle.ol_rules.specs.Scripts.{Ascends};
 ghost use Rattle.ol_outside.specs.Disk.{seen};
 ghost use Rattle.ol_reserve.specs.Pair.{there};
 ghost use Rattle.ol_script.specs.Spelling.{IsLine};
@@ -23,9 +23,9 @@ use crate::status::Status;
 use crate::told::Told;
 use crate::words::{Verb, Words};
 use ol_chunks::{ChunkTable, ConfigFault, parse_config};
-use ol_model::{History, Line};
 use ol_outside::{Disk, Drive, Source};
 use ol_script::{Script, ScriptFault, parse};
+use ol_values::{History, Line};
 use ol_volume::{TapeEnd, Writer};
 use std::alloc::Global;
 

@@ -8,10 +8,10 @@ use Rattle.std.proofs.lemmas.Slice.Eq.{bytes_eq-Decides}
 use Rattle.std.proofs.lemmas.List.{drop-append-le, drop-drop, drop_at, get_or-take, get_or_past, take_at, get_or-take, get_or_past, length-drop, length-take, take-append-drop}
 use Rattle.std.proofs.lemmas.List.Elements.{All-cons, All-head, All-nil, All-tail}
 use Rattle.std.proofs.lemmas.Nat.{be_bytes_8, from_be_bytes-to_be_bytes_8}
-use Rattle.ol_model.specs.declared.row.Row.{Row}
-use Rattle.ol_model.specs.Journal.{Page, blank}
-use Rattle.ol_model.specs.Image.{IsDataPage, IsPage, page_bytes, page_in, slot_bytes, slot_in, slots_bytes, slots_in}
-use Rattle.ol_model.proofs.Zeros.{zeros_again, zeros_from}
+use Rattle.ol_values.specs.declared.row.Row.{Row}
+use Rattle.ol_values.specs.Pages.{Page, blank}
+use Rattle.ol_values.specs.Image.{IsDataPage, IsPage, page_bytes, page_in, slot_bytes, slot_in, slots_bytes, slots_in}
+use Rattle.ol_values.proofs.Zeros.{zeros_again, zeros_from}
 use Rattle.ol_page.specs.Testing.{are_slots, are_zeros, has_gaps, has_stamp, is_data_page, is_slot, is_stamped}
 use Rattle.ol_page.proofs.Slots.{RowFits, blank_bytes, drop-slots_bytes, length-slot_bytes, length-slots_bytes}
 

@@ -7,9 +7,9 @@ use Rattle.std.proofs.lemmas.List.{append-nil, append_assoc, drop-append-le, dro
 use Rattle.std.proofs.lemmas.List.Concat.{flat_map-append}
 use Rattle.std.proofs.lemmas.List.Elements.{All-head, All-replicate, All-set, All-tail}
 use Rattle.std.proofs.Math.ListN.{length-set}
-use Rattle.ol_model.specs.declared.row.Row.{Row}
-use Rattle.ol_model.specs.Journal.{Page, blank}
-use Rattle.ol_model.specs.Image.{IsPage, page_bytes, slot_bytes, slots_bytes, with_slot}
+use Rattle.ol_values.specs.declared.row.Row.{Row}
+use Rattle.ol_values.specs.Pages.{Page, blank}
+use Rattle.ol_values.specs.Image.{IsPage, page_bytes, slot_bytes, slots_bytes, with_slot}
 use Rattle.ol_bytes.specs.Overwriting.{overwritten}
 
 -- a row fits its slot

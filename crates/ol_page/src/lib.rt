@@ -3,14 +3,14 @@
 #![tactic(auto)]
 
 ghost use Rattle.std.specs.Prelude.{◌≡◌, ◌+◌, ◌<◌, ◌≤◌, IfSome, IsTrue, None, OnOk, Option, is_ok, length, replicate, slice_index_or};
-ghost use Rattle.ol_model.specs.declared.row.Row.{Row as RowValue};
-ghost use Rattle.ol_model.specs.Journal.{Page};
-ghost use Rattle.ol_model.specs.Image.{IsDataPage, IsPage, page_bytes, page_in, slot_bytes, with_slot};
+ghost use Rattle.ol_values.specs.declared.row.Row.{Row as RowValue};
+ghost use Rattle.ol_values.specs.Pages.{Page};
+ghost use Rattle.ol_values.specs.Image.{IsDataPage, IsPage, page_bytes, page_in, slot_bytes, with_slot};
 ghost use Rattle.ol_bytes.specs.Overwriting.{overwritten};
 ghost use Rattle.ol_page.specs.Testing.{are_slots, are_zeros, has_gaps, has_stamp, is_data_page, is_slot, is_stamped};
 
 use ol_bytes::number;
-use ol_model::Row;
+use ol_values::Row;
 
 /// The bytes of the image of a page.
 pub const PAGE_LENGTH: usize = 2048;

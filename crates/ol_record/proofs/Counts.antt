@@ -5,10 +5,11 @@ use Rattle.std.specs.Int.{w16, w64, from_be_bytes, to_be_bytes}
 use Rattle.std.proofs.lemmas.List.{get_or-drop, get_or-take, length-append, length-drop, take_all}
 use Rattle.std.proofs.lemmas.List.Sums.{sum_by-cons}
 use Rattle.std.proofs.lemmas.List.Concat.{flat_map-cons}
-use Rattle.ol_model.specs.declared.record.Record.{Record}
-use Rattle.ol_model.specs.declared.record.Record.TheVariants.{Begin, Change, Commit, Rolled, Undo}
-use Rattle.ol_model.specs.declared.row.Row.{Row}
-use Rattle.ol_record.specs.LogPages.{IsFilling, LogPage, page_in, touches_page}
+use Rattle.ol_values.specs.declared.record.Record.{Record}
+use Rattle.ol_values.specs.declared.record.Record.TheVariants.{Begin, Change, Commit, Rolled, Undo}
+use Rattle.ol_values.specs.declared.row.Row.{Row}
+use Rattle.ol_values.specs.LogPages.{LogPage}
+use Rattle.ol_record.specs.LogPages.{IsFilling, page_in, touches_page}
 use Rattle.ol_record.specs.Spelling.{IsRecord, IsValue, KeepsRules, place_bytes, record_bytes, records_bytes, value_bytes}
 use Rattle.ol_record.specs.Reading.{record_at, records_in}
 use Rattle.ol_record.proofs.Filled.{pair_at}

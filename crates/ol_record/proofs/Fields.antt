@@ -4,8 +4,8 @@ use Rattle.std.specs.Int.{Width, w16, w32, w64, byte_len, from_be_bytes, to_be_b
 use Rattle.std.proofs.lemmas.Bool.{cases_lt, eqb-true, eqb-false, ltb-false, le-ltb}
 use Rattle.std.proofs.lemmas.List.{take_at, drop_at, take-append-drop, length-append, length-take, get_or-drop, get_or-take, get_or_past}
 use Rattle.std.proofs.lemmas.Nat.{be_bytes_2, be_bytes_4, be_bytes_8, from_be_bytes-to_be_bytes_2, from_be_bytes-to_be_bytes_4, from_be_bytes-to_be_bytes_8}
-use Rattle.ol_model.specs.declared.record.Rid.{Rid}
-use Rattle.ol_model.specs.declared.row.Row.{Row}
+use Rattle.ol_values.specs.declared.record.Rid.{Rid}
+use Rattle.ol_values.specs.declared.row.Row.{Row}
 use Rattle.ol_record.specs.Spelling.{IsPlace, IsValue, place_bytes, value_bytes}
 use Rattle.ol_bytes.specs.Reading.{◌>>=◌}
 use Rattle.ol_record.specs.Reading.{number_at, place_at, row_at, value_at}

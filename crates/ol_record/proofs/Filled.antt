@@ -5,8 +5,9 @@ use Rattle.std.specs.Int.{w16, from_be_bytes, to_be_bytes}
 use Rattle.std.specs.List.{AllByRecursion}
 use Rattle.std.proofs.lemmas.List.{append-nil, drop_at, length-append, length-replicate, length_push, replicate-append-replicate, take_at}
 use Rattle.std.proofs.lemmas.List.Concat.{flat_map-append, flat_map-cons}
-use Rattle.ol_model.specs.declared.record.Record.{Record}
-use Rattle.ol_record.specs.LogPages.{IsBuffer, IsFilling, IsImage, LogPage, blank_page, fixed_bytes, log_page_bytes, padding, page_in, tally_bytes, with_record}
+use Rattle.ol_values.specs.declared.record.Record.{Record}
+use Rattle.ol_values.specs.LogPages.{LogPage}
+use Rattle.ol_record.specs.LogPages.{IsBuffer, IsFilling, IsImage, blank_page, fixed_bytes, log_page_bytes, padding, page_in, tally_bytes, with_record}
 use Rattle.ol_bytes.specs.Overwriting.{overwritten}
 use Rattle.ol_record.specs.Spelling.{IsRecord, record_bytes, records_bytes}
 use Rattle.ol_record.proofs.Fields.{wide16}

@@ -2,7 +2,8 @@
 use Rattle.std.proofs.Common.{◌≡◌, ℕ, List, length, Option, Some, None, ap, sym, ◌∙◌}
 use Rattle.std.specs.Prelude.{IfSome}
 use Rattle.ol_record.specs.declared.head.LogHead.{LogHead}
-use Rattle.ol_record.specs.LogPages.{IsImage, IsLogPage, LogPage, head_of, log_page_bytes, page_in}
+use Rattle.ol_values.specs.LogPages.{LogPage}
+use Rattle.ol_record.specs.LogPages.{IsImage, IsLogPage, head_of, log_page_bytes, page_in}
 use Rattle.ol_record.specs.PageReading.{page_at}
 use Rattle.ol_bytes.specs.Reading.{Gives}
 use Rattle.ol_record.proofs.Fields.{IsBytes}

@@ -2,8 +2,9 @@
 use Rattle.std.proofs.Common.{◌≡◌, ℕ, List, ◌++◌, length, refl, arith}
 use Rattle.std.specs.Prelude.{slice_index, slice_range, drop}
 use Rattle.std.specs.Int.{w16, w32, w64, from_be_bytes}
-use Rattle.ol_model.specs.declared.record.Record.{Record}
-use Rattle.ol_record.specs.LogPages.{IsFilling, IsLogPage, LogPage, fixed_bytes, log_page_bytes, padding, page_in, tally_bytes}
+use Rattle.ol_values.specs.declared.record.Record.{Record}
+use Rattle.ol_values.specs.LogPages.{LogPage}
+use Rattle.ol_record.specs.LogPages.{IsFilling, IsLogPage, fixed_bytes, log_page_bytes, padding, page_in, tally_bytes}
 use Rattle.ol_record.specs.Spelling.{records_bytes}
 use Rattle.ol_record.specs.Reading.{records_in}
 use Rattle.ol_record.proofs.Fields.{wide16, wide32, wide64}

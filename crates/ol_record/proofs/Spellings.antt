@@ -4,10 +4,10 @@ use Rattle.std.proofs.lemmas.Bool.{eqb-true}
 use Rattle.std.proofs.lemmas.List.{append-nil}
 use Rattle.std.specs.Prelude.{◌||◌, is_some}
 use Rattle.std.specs.Int.{w64, to_be_bytes}
-use Rattle.ol_model.specs.declared.record.Record.{Record}
-use Rattle.ol_model.specs.declared.record.Record.TheVariants.{Begin, Change, Commit, Rolled, Undo}
-use Rattle.ol_model.specs.declared.record.Rid.{Rid}
-use Rattle.ol_model.specs.declared.row.Row.{Row}
+use Rattle.ol_values.specs.declared.record.Record.{Record}
+use Rattle.ol_values.specs.declared.record.Record.TheVariants.{Begin, Change, Commit, Rolled, Undo}
+use Rattle.ol_values.specs.declared.record.Rid.{Rid}
+use Rattle.ol_values.specs.declared.row.Row.{Row}
 use Rattle.ol_record.specs.Spelling.{IsRecord, place_bytes, record_bytes, value_bytes}
 use Rattle.ol_bytes.specs.Reading.{◌>>=◌}
 use Rattle.ol_record.specs.Reading.{change_at, kind_at, number_at, place_at, record_at, undo_at, value_at}

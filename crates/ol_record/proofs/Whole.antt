@@ -4,10 +4,11 @@ use Rattle.std.specs.Prelude.{◌&&◌, slice_index}
 use Rattle.std.specs.List.{list_all}
 use Rattle.std.proofs.lemmas.Bool.{and_from, and_parts, eqb-true, leb-true, le-leb, le-ltb, ltb-false}
 use Rattle.std.proofs.lemmas.List.{drop_at, length-append, length-drop, length-take, take-append-drop, take_at}
-use Rattle.ol_model.specs.declared.record.Record.{Record}
-use Rattle.ol_model.proofs.Zeros.{zeros_again, zeros_from}
+use Rattle.ol_values.specs.declared.record.Record.{Record}
+use Rattle.ol_values.proofs.Zeros.{zeros_again, zeros_from}
 use Rattle.ol_record.specs.declared.head.LogHead.{LogHead}
-use Rattle.ol_record.specs.LogPages.{IsImage, IsLogPage, LogPage, fixed_bytes, head_of, log_page_bytes, padding, page_in, tally_bytes}
+use Rattle.ol_values.specs.LogPages.{LogPage}
+use Rattle.ol_record.specs.LogPages.{IsImage, IsLogPage, fixed_bytes, head_of, log_page_bytes, padding, page_in, tally_bytes}
 use Rattle.ol_record.specs.PageReading.{body_at, head_at, in_limits, in_range, page_at}
 use Rattle.ol_record.specs.Reading.{records_in, whole_in}
 use Rattle.ol_record.specs.Spelling.{records_bytes}

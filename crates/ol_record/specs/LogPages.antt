@@ -2,19 +2,12 @@
 use Rattle.std.specs.Prelude.{Bool, List, [], codes, drop, false, length, replicate, slice_index, slice_range, true, ℕ, ◌++◌, ◌+◌, ◌-◌, ◌<◌, ◌^◌, ◌∷◌, ◌≡◌, ◌≤◌}
 use Rattle.std.specs.List.{AllByRecursion}
 use Rattle.std.specs.Int.{w16, w32, w64, from_be_bytes, to_be_bytes}
-use Rattle.ol_model.specs.declared.record.Record.{Record}
-use Rattle.ol_model.specs.declared.record.Record.TheVariants.{Begin, Change, Commit, Rolled, Undo}
+use Rattle.ol_values.specs.declared.record.Record.{Record}
+use Rattle.ol_values.specs.declared.record.Record.TheVariants.{Begin, Change, Commit, Rolled, Undo}
+use Rattle.ol_values.specs.LogPages.{LogPage}
 use Rattle.ol_record.specs.declared.head.LogHead.{LogHead}
 use Rattle.ol_record.specs.Reading.{records_in}
 use Rattle.ol_record.specs.Spelling.{IsRecord, records_bytes}
-
--- a page by its place in its file from 0, the unique number of the file's use, the incarnation, the position of the first record, and the records in order
-pub record LogPage : Type 0 where
-  pub index : ℕ
-  pub uniq : ℕ
-  pub incarnation : ℕ
-  pub first : ℕ
-  pub records : List Record
 
 -- the 32 bytes that stay as records come: the gate, a mark of the format, and the numbers of the page
 unfoldable pub fixed_bytes : ℕ → LogPage → List ℕ

@@ -2,10 +2,10 @@
 use Rattle.std.specs.Prelude.{Bool, List, None, Option, Some, [], drop, false, if◌then◌else◌, is_some, length, nat_lt, suc, take, zero, ℕ, ◌-◌, ◌==◌, ◌||◌, ◌∷◌, ◌≡◌}
 use Rattle.std.specs.Int.{Width, w16, w64, byte_len, from_be_bytes}
 use Rattle.ol_bytes.specs.Reading.{◌>>=◌}
-use Rattle.ol_model.specs.declared.record.Record.{Record}
-use Rattle.ol_model.specs.declared.record.Record.TheVariants.{Begin, Change, Commit, Rolled, Undo}
-use Rattle.ol_model.specs.declared.record.Rid.{Rid}
-use Rattle.ol_model.specs.declared.row.Row.{Row}
+use Rattle.ol_values.specs.declared.record.Record.{Record}
+use Rattle.ol_values.specs.declared.record.Record.TheVariants.{Begin, Change, Commit, Rolled, Undo}
+use Rattle.ol_values.specs.declared.record.Rid.{Rid}
+use Rattle.ol_values.specs.declared.row.Row.{Row}
 
 -- a number of this width
 abbrev pub number_at : Width → List ℕ → Option (ℕ × List ℕ)

@@ -1,10 +1,10 @@
 -- The one spelling of each log record. Numbers are big-endian.
 use Rattle.std.specs.Prelude.{IfSome, IsTrue, List, None, Option, Some, [], flat_map, is_some, length, ℕ, ◌++◌, ◌+◌, ◌<◌, ◌^◌, ◌||◌, ◌∷◌, ◌≤◌}
 use Rattle.std.specs.Int.{w16, w64, to_be_bytes}
-use Rattle.ol_model.specs.declared.record.Record.{Record}
-use Rattle.ol_model.specs.declared.record.Record.TheVariants.{Begin, Change, Commit, Rolled, Undo}
-use Rattle.ol_model.specs.declared.record.Rid.{Rid}
-use Rattle.ol_model.specs.declared.row.Row.{Row}
+use Rattle.ol_values.specs.declared.record.Record.{Record}
+use Rattle.ol_values.specs.declared.record.Record.TheVariants.{Begin, Change, Commit, Rolled, Undo}
+use Rattle.ol_values.specs.declared.record.Rid.{Rid}
+use Rattle.ol_values.specs.declared.row.Row.{Row}
 
 -- what a slot holds: the byte 0 for nothing, or the row's length plus 1 and the row
 abbrev pub value_bytes : Option Row → List ℕ

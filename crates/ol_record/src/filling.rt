@@ -10,7 +10,7 @@ ghost use Rattle.ol_record.specs.Spelling.{IsRecord, KeepsRules, record_bytes, r
 use crate::testing::PAGE_LENGTH;
 use crate::writing::{LONGEST_RECORD, encode};
 use ol_bytes::{clear_from, put};
-use ol_model::Record;
+use ol_values::Record;
 
 /// The bytes in front of the records.
 const FRONT: usize = 36;

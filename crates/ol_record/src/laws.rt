@@ -1,8 +1,9 @@
 //! What holds of spellings and pages, whoever wrote them.
 
 ghost use Rattle.std.specs.Prelude.{◌≡◌, ◌≤◌, ◌++◌, ◌∷◌, List, ℕ, count_by, drop, length};
-ghost use Rattle.ol_model.specs.declared.record.Record.{Record as RecordValue};
-ghost use Rattle.ol_record.specs.LogPages.{IsFilling, IsLogPage, LogPage, log_page_bytes, page_in, touches_page};
+ghost use Rattle.ol_values.specs.declared.record.Record.{Record as RecordValue};
+ghost use Rattle.ol_values.specs.LogPages.{LogPage};
+ghost use Rattle.ol_record.specs.LogPages.{IsFilling, IsLogPage, log_page_bytes, page_in, touches_page};
 ghost use Rattle.ol_record.specs.Spelling.{IsRecord, KeepsRules, record_bytes};
 
 /// No spelling of a record begins another. So bytes begin with one record at most, and a list of bytes

@@ -2,12 +2,12 @@
 
 ghost use Rattle.std.specs.Prelude.{◌≡◌, ◌≤◌, ◌++◌, List, ℕ, IfSome, Some, length, take};
 ghost use Rattle.std.specs.Int.{w64};
-ghost use Rattle.ol_model.specs.declared.record.Record.{Record as RecordValue};
+ghost use Rattle.ol_values.specs.declared.record.Record.{Record as RecordValue};
 ghost use Rattle.ol_record.specs.Spelling.{IsRecord, record_bytes};
 ghost use Rattle.ol_bytes.specs.Reading.{Gives};
 ghost use Rattle.ol_record.specs.Reading.{change_at, kind_at, number_at, place_at, record_at, row_at, undo_at, value_at};
 
-use ol_model::{Record, Rid, Row};
+use ol_values::{Record, Rid, Row};
 
 /// Slots are counted from 0 to this one.
 const LAST_SLOT: u8 = 30;

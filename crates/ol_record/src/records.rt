@@ -6,7 +6,7 @@ ghost use Rattle.ol_record.specs.LogPages.{page_in};
 
 use crate::reading::record_of;
 use crate::testing::PAGE_LENGTH;
-use ol_model::Record;
+use ol_values::Record;
 use std::marker::Model;
 
 /// The records of a log page that are still to be read, which contracts see as their list. It takes no
@@ -19,7 +19,7 @@ pub struct RecordsOf<'a> {
 
 impl<'a> Model for RecordsOf<'a> {
     ghost use Rattle.std.specs.Prelude.{List};
-    ghost use Rattle.ol_model.specs.declared.record.Record.{Record as RecordValue};
+    ghost use Rattle.ol_values.specs.declared.record.Record.{Record as RecordValue};
     ghost use Rattle.ol_record.specs.Reading.{records_in};
 
     ghost Value = { List RecordValue };

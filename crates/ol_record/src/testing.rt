@@ -3,7 +3,8 @@
 ghost use Rattle.std.specs.Prelude.{◌≡◌, ◌==◌, ℕ, IfSome, Some};
 ghost use Rattle.std.specs.List.{list_all};
 ghost use Rattle.std.specs.Int.{w16, w32};
-ghost use Rattle.ol_record.specs.LogPages.{IsImage, IsLogPage, LogPage, head_of, log_page_bytes, page_in};
+ghost use Rattle.ol_values.specs.LogPages.{LogPage};
+ghost use Rattle.ol_record.specs.LogPages.{IsImage, IsLogPage, head_of, log_page_bytes, page_in};
 ghost use Rattle.ol_record.specs.PageReading.{body_at, head_at, in_limits, in_range, mark_at, page_at};
 ghost use Rattle.ol_bytes.specs.Reading.{Gives};
 ghost use Rattle.ol_record.specs.Reading.{number_at, whole_in};

@@ -5,7 +5,7 @@ ghost use Rattle.std.specs.Int.{w64, to_be_bytes};
 ghost use Rattle.ol_record.specs.Spelling.{IsPlace, IsRecord, IsValue, KeepsRules, place_bytes, record_bytes, value_bytes};
 
 use ol_bytes::put;
-use ol_model::{Record, Rid, Row};
+use ol_values::{Record, Rid, Row};
 
 /// The bytes of the longest record: a change from a row of 63 bytes to another.
 pub const LONGEST_RECORD: usize = 141;

@@ -104,15 +104,15 @@ damaged_some d page a lt (inl bad) is = let b = at_or_beside d page is.0 a lt is
 damaged_some d page a lt (inr same) is = serials_differ d is.0 a same.1.0 same.1.1 is.1 same.1.2 same.1.3 same.1.4
 
 pub answer_from : (d : Bytes) (now : Option Anchor) (bytes : List ℕ) (result : Result (Unit {0}) ReserveFault) → Newest d now → OnOk result (IsTold d bytes)
-    → (IsErrOf result Blank → Newest d None) → ((chunk page : ℕ) → IsErrOf result (BadDisk chunk page) → (chunk ≡ 0) × (page < 2) × IsDamaged d page) → ((chunk : ℕ) → IsErrOf result (DiskFault chunk) → chunk ≡ 0)
+    → (IsErrOf result Blank → Newest d None) → ((chunk page : ℕ) → IsErrOf result (BadDisk chunk page) → IsDamaged d page) → ((chunk page : ℕ) → IsErrOf result (BadDisk chunk page) → (chunk ≡ 0) × (page < 2)) → ((chunk : ℕ) → IsErrOf result (DiskFault chunk) → chunk ≡ 0)
     → IsAnswer now bytes result
-answer_from d None bytes (Ok u) is told blank bad fault = shut_holds d told.0 told.1.0 told.1.1 is
-answer_from d (Some a) bytes (Ok u) is told blank bad fault = newest_bytes d a bytes is told
-answer_from d None bytes (Err Blank) is told blank bad fault = tt
-answer_from d (Some a) bytes (Err Blank) is told blank bad fault = shut_holds d a is.0 is.1 (blank refl)
-answer_from d None bytes (Err (BadDisk chunk page)) is told blank bad fault = let b = bad chunk page refl in damaged_none d page b.1 b.2 is
-answer_from d (Some a) bytes (Err (BadDisk chunk page)) is told blank bad fault = let b = bad chunk page refl in damaged_some d page a b.1 b.2 is
-answer_from d None bytes (Err (DiskFault chunk)) is told blank bad fault = fault chunk refl
-answer_from d (Some a) bytes (Err (DiskFault chunk)) is told blank bad fault = fault chunk refl
-answer_from d None bytes (Err NoMemory) is told blank bad fault = tt
-answer_from d (Some a) bytes (Err NoMemory) is told blank bad fault = tt
+answer_from d None bytes (Ok u) is told blank bad place fault = shut_holds d told.0 told.1.0 told.1.1 is
+answer_from d (Some a) bytes (Ok u) is told blank bad place fault = newest_bytes d a bytes is told
+answer_from d None bytes (Err Blank) is told blank bad place fault = tt
+answer_from d (Some a) bytes (Err Blank) is told blank bad place fault = shut_holds d a is.0 is.1 (blank refl)
+answer_from d None bytes (Err (BadDisk chunk page)) is told blank bad place fault = damaged_none d page (place chunk page refl).1 (bad chunk page refl) is
+answer_from d (Some a) bytes (Err (BadDisk chunk page)) is told blank bad place fault = damaged_some d page a (place chunk page refl).1 (bad chunk page refl) is
+answer_from d None bytes (Err (DiskFault chunk)) is told blank bad place fault = fault chunk refl
+answer_from d (Some a) bytes (Err (DiskFault chunk)) is told blank bad place fault = fault chunk refl
+answer_from d None bytes (Err NoMemory) is told blank bad place fault = tt
+answer_from d (Some a) bytes (Err NoMemory) is told blank bad place fault = tt

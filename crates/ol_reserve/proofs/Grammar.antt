@@ -5,7 +5,7 @@ use Rattle.std.specs.List.{list_all}
 use Rattle.std.proofs.lemmas.Bool.{and_parts, eqb-true}
 use Rattle.std.proofs.lemmas.Slice.Eq.{bytes_eq-Decides}
 use Rattle.ol_chunks.specs.Reading.{config_of}
-use Rattle.ol_model.specs.Config.{Config}
+use Rattle.ol_values.specs.Config.{Config}
 use Rattle.ol_reserve.specs.Anchor.{HasEach, IsAnchor, anchor_bytes, are_downs, are_states, front_bytes, in_limits, is_known, is_number, numbers_of}
 use Rattle.ol_reserve.specs.declared.anchor.Anchor.{Anchor}
 

@@ -4,7 +4,7 @@ use Rattle.std.specs.Prelude.{Bool, List, Ok, [], codes, drop, length, nat_le, r
 use Rattle.std.specs.Int.{to_be_bytes, w16}
 use Rattle.ol_bytes.specs.Numbers.{numbers_bytes}
 use Rattle.ol_chunks.specs.Reading.{config_of}
-use Rattle.ol_model.specs.Config.{Config}
+use Rattle.ol_values.specs.Config.{Config}
 use Rattle.ol_reserve.specs.declared.anchor.Anchor.{Anchor}
 
 -- its numbers, in their order

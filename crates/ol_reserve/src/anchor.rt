@@ -6,7 +6,7 @@ ghost use Rattle.std.proofs.Common.{get_or};
 ghost use Rattle.ol_bytes.specs.Numbers.{numbers_bytes};
 ghost use Rattle.ol_reserve.specs.Anchor.{HasEach, IsAnchor, anchor_bytes, are_downs as are_downs_lem, are_states as are_states_lem, front_bytes, in_limits, is_known, is_number, known_of, numbers_of as numbers_of_lem};
 ghost use Rattle.ol_chunks.specs.Reading.{config_of};
-ghost use Rattle.ol_model.specs.Config.{Config};
+ghost use Rattle.ol_values.specs.Config.{Config};
 ghost use Rattle.ol_reserve.specs.declared.anchor.Anchor.{Anchor as AnchorValue};
 
 use crate::ConfigText;

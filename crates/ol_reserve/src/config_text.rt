@@ -19,7 +19,7 @@ pub struct ConfigText {
 impl Model for ConfigText {
     ghost use Rattle.std.specs.Prelude.{List, ℕ, length, take};
     ghost use Rattle.std.proofs.Common.{ap, ◌∙◌};
-    ghost use Rattle.ol_model.specs.Held.{IsHeld, held_in, held_back, length-held};
+    ghost use Rattle.ol_values.specs.Held.{IsHeld, held_in, held_back, length-held};
 
     ghost Value = { List ℕ };
 

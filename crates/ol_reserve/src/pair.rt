@@ -63,7 +63,8 @@ impl Pair {
         ensures ok { D.tells → OnOk result (IsTold (there (D.sizes disk.old) (seen (D.past disk.old))) buf.new) }
         ensures anchor { OnOk result (IsSpelled buf.new) }
         ensures blank { D.tells → IsErrOf result ReserveFault.Blank → Newest (there (D.sizes disk.old) (seen (D.past disk.old))) None }
-        ensures bad { D.tells → (chunk page : ℕ) → IsErrOf result (ReserveFault.BadDisk chunk page) → (chunk ≡ 0) × (page < 2) × IsDamaged (there (D.sizes disk.old) (seen (D.past disk.old))) page }
+        ensures bad { D.tells → (chunk page : ℕ) → IsErrOf result (ReserveFault.BadDisk chunk page) → IsDamaged (there (D.sizes disk.old) (seen (D.past disk.old))) page }
+        ensures place { (chunk page : ℕ) → IsErrOf result (ReserveFault.BadDisk chunk page) → (chunk ≡ 0) × (page < 2) }
         ensures answer { D.tells → (now : Option AnchorValue) → Newest (there (D.sizes disk.old) (seen (D.past disk.old))) now → IsAnswer now buf.new result }
         ensures past { D.tells → D.past disk.new ≡ D.past disk.old }
         ensures sizes { D.sizes disk.new ≡ D.sizes disk.old }
@@ -123,7 +124,8 @@ fn read_pair<D: Disk>(
     ensures ok { D.tells → OnOk result (IsTold (there (D.sizes disk.old) (seen (D.past disk.old))) buf.new) }
     ensures anchor { OnOk result (IsSpelled buf.new) }
     ensures blank { D.tells → IsErrOf result ReserveFault.Blank → Newest (there (D.sizes disk.old) (seen (D.past disk.old))) None }
-    ensures bad { D.tells → (chunk page : ℕ) → IsErrOf result (ReserveFault.BadDisk chunk page) → (chunk ≡ 0) × (page < 2) × IsDamaged (there (D.sizes disk.old) (seen (D.past disk.old))) page }
+    ensures bad { D.tells → (chunk page : ℕ) → IsErrOf result (ReserveFault.BadDisk chunk page) → IsDamaged (there (D.sizes disk.old) (seen (D.past disk.old))) page }
+    ensures place { (chunk page : ℕ) → IsErrOf result (ReserveFault.BadDisk chunk page) → (chunk ≡ 0) × (page < 2) }
     ensures past { D.tells → D.past disk.new ≡ D.past disk.old }
     ensures sizes { D.sizes disk.new ≡ D.sizes disk.old }
     ensures cause { HasFaultCause (D.fault_counts disk.old) (D.fault_counts disk.new) result }
@@ -148,7 +150,8 @@ fn pick(
 ) -> Result<(), ReserveFault>
     ensures ok { (d : Bytes) → IsPage d 0 buf.old first → IsPage d 1 other.now second → OnOk result (IsTold d buf.new) }
     ensures blank { (d : Bytes) → IsPage d 0 buf.old first → IsPage d 1 other.now second → IsErrOf result ReserveFault.Blank → Newest d None }
-    ensures bad { (d : Bytes) → IsPage d 0 buf.old first → IsPage d 1 other.now second → (chunk page : ℕ) → IsErrOf result (ReserveFault.BadDisk chunk page) → (chunk ≡ 0) × (page < 2) × IsDamaged d page }
+    ensures bad { (d : Bytes) → IsPage d 0 buf.old first → IsPage d 1 other.now second → (chunk page : ℕ) → IsErrOf result (ReserveFault.BadDisk chunk page) → IsDamaged d page }
+    ensures place { (chunk page : ℕ) → IsErrOf result (ReserveFault.BadDisk chunk page) → (chunk ≡ 0) × (page < 2) }
     ensures anchor { IsSpelledIf first buf.old → IsSpelledIf second other.now → OnOk result (IsSpelled buf.new) }
     ensures fault { (chunk : ℕ) → IsErrOf result (ReserveFault.DiskFault chunk) → ⊥ }
 {
@@ -184,7 +187,8 @@ fn read_page<D: Disk>(
 ) -> Result<Option<u64>, ReserveFault>
     requires { page < 2 }
     ensures told { D.tells → IfOk result (IsPage (there (D.sizes disk.old) (seen (D.past disk.old))) page buf.new) }
-    ensures bad { D.tells → (chunk at : ℕ) → IsErrOf result (ReserveFault.BadDisk chunk at) → (chunk ≡ 0) × (at ≡ page) × IsDamaged (there (D.sizes disk.old) (seen (D.past disk.old))) page }
+    ensures bad { D.tells → (chunk at : ℕ) → IsErrOf result (ReserveFault.BadDisk chunk at) → IsDamaged (there (D.sizes disk.old) (seen (D.past disk.old))) at }
+    ensures place { (chunk at : ℕ) → IsErrOf result (ReserveFault.BadDisk chunk at) → (chunk ≡ 0) × (at ≡ page) }
     ensures anchor { IfOk result (λ serial. IsSpelledIf serial buf.new) }
     ensures blank { IsErrOf result ReserveFault.Blank → ⊥ }
     ensures past { D.tells → D.past disk.new ≡ D.past disk.old }
@@ -207,7 +211,8 @@ fn test_page(
     bytes: &[u8; PAGE_LENGTH],
 ) -> Result<Option<u64>, ReserveFault>
     ensures told { (d : Bytes) → Shows d 0 page bytes.now → IfOk result (IsPage d page bytes.now) }
-    ensures bad { (d : Bytes) → Shows d 0 page bytes.now → (chunk at : ℕ) → IsErrOf result (ReserveFault.BadDisk chunk at) → (chunk ≡ 0) × (at ≡ page) × IsDamaged d page }
+    ensures bad { (d : Bytes) → Shows d 0 page bytes.now → (chunk at : ℕ) → IsErrOf result (ReserveFault.BadDisk chunk at) → IsDamaged d at }
+    ensures place { (chunk at : ℕ) → IsErrOf result (ReserveFault.BadDisk chunk at) → (chunk ≡ 0) × (at ≡ page) }
     ensures anchor { IfOk result (λ serial. IsSpelledIf serial bytes.now) }
     ensures blank { IsErrOf result ReserveFault.Blank → ⊥ }
     ensures fault { (chunk : ℕ) → IsErrOf result (ReserveFault.DiskFault chunk) → ⊥ }

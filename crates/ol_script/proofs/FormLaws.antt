@@ -3,10 +3,10 @@ use Rattle.std.specs.Prelude.{List, Option, Some, [], bytes_eq, codes, decimal, 
 use Rattle.std.proofs.Common.{ap, arith, inl, inr, subst, sym, ◌∙◌}
 use Rattle.std.proofs.lemmas.Option.{same_Some}
 use Rattle.std.proofs.lemmas.Slice.Eq.{bytes_eq-Decides}
-use Rattle.ol_model.specs.declared.history.Actor.{Actor}
-use Rattle.ol_model.specs.declared.history.Actor.TheVariants.{Archiver, Backer, Checkpointer, Flusher, Session, Warmer}
-use Rattle.ol_model.specs.declared.line.Form.{Form}
-use Rattle.ol_model.specs.declared.line.Form.TheVariants.{Archive, Backup, Begin, Cancel, Checkpoint, Clean, Commit, Delete, End, Insert, List as ListForm, Read, Restore, Rollback, Start, Switch, Turn, Update}
+use Rattle.ol_values.specs.declared.history.Actor.{Actor}
+use Rattle.ol_values.specs.declared.history.Actor.TheVariants.{Archiver, Backer, Checkpointer, Flusher, Session, Warmer}
+use Rattle.ol_values.specs.declared.line.Form.{Form}
+use Rattle.ol_values.specs.declared.line.Form.TheVariants.{Archive, Backup, Begin, Cancel, Checkpoint, Clean, Commit, Delete, End, Insert, List as ListForm, Read, Restore, Rollback, Start, Switch, Turn, Update}
 use Rattle.ol_script.proofs.NameLaws.{first_is}
 use Rattle.ol_script.proofs.NumberLaws.{number_again, number_takes}
 use Rattle.ol_script.proofs.Steps.{bind_some, chosen, map_some}

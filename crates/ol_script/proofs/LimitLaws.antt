@@ -4,7 +4,7 @@ use Rattle.std.proofs.Common.{ap, arith, inl, inr, subst, sym, ◌∙◌}
 use Rattle.std.proofs.Math.Seq.{take-append-add}
 use Rattle.std.proofs.lemmas.Bool.{and_from, and_parts, cases_lt, eqb-true, lt-ltb, ltb-false}
 use Rattle.std.proofs.lemmas.List.{take-append-le}
-use Rattle.ol_model.specs.declared.line.Line.{Line}
+use Rattle.ol_values.specs.declared.line.Line.{Line}
 use Rattle.ol_script.proofs.PieceLaws.{lacks, pieces_front, pieces_whole}
 use Rattle.ol_script.proofs.ScriptLaws.{line_from}
 use Rattle.ol_script.proofs.Steps.{guard_false}

@@ -6,13 +6,13 @@ use Rattle.std.proofs.lemmas.Bool.{and_from, and_parts, le-ltb, ltb-false}
 use Rattle.std.proofs.lemmas.List.Folds.{list_all-append}
 use Rattle.std.proofs.lemmas.List.Elements.{All-from_recursion}
 use Rattle.std.proofs.lemmas.Option.{same_Some}
-use Rattle.ol_model.specs.declared.history.Actor.{Actor}
-use Rattle.ol_model.specs.declared.history.Actor.TheVariants.{Archiver, Backer, Checkpointer, Flusher, Session, Warmer}
-use Rattle.ol_model.specs.declared.line.Form.{Form}
-use Rattle.ol_model.specs.declared.line.Form.TheVariants.{Archive, Backup, Begin, Cancel, Checkpoint, Clean, Commit, Delete, End, Insert, List as ListForm, Read, Restore, Rollback, Start, Switch, Turn, Update}
-use Rattle.ol_model.specs.declared.line.Line.{Line}
-use Rattle.ol_model.specs.Text.{actor_text}
-use Rattle.ol_model.specs.History.{Ascends}
+use Rattle.ol_values.specs.declared.history.Actor.{Actor}
+use Rattle.ol_values.specs.declared.history.Actor.TheVariants.{Archiver, Backer, Checkpointer, Flusher, Session, Warmer}
+use Rattle.ol_values.specs.declared.line.Form.{Form}
+use Rattle.ol_values.specs.declared.line.Form.TheVariants.{Archive, Backup, Begin, Cancel, Checkpoint, Clean, Commit, Delete, End, Insert, List as ListForm, Read, Restore, Rollback, Start, Switch, Turn, Update}
+use Rattle.ol_values.specs.declared.line.Line.{Line}
+use Rattle.ol_values.specs.Text.{actor_text}
+use Rattle.ol_rules.specs.Scripts.{Ascends}
 use Rattle.ol_script.proofs.FormLaws.{form_again, form_takes}
 use Rattle.ol_script.proofs.NameLaws.{first_is}
 use Rattle.ol_script.proofs.PieceLaws.{joined-pieces, lacks, pieces-joined, pieces_front}

@@ -5,7 +5,7 @@ use Rattle.std.proofs.Common.{ap, append-nil, append_assoc, arith, inl, inr, len
 use Rattle.std.proofs.lemmas.Bool.{and_from, and_left, and_parts, and_right, le-leb, lt-leb, not-true, or_cases, or_from, or_left, or_parts, or_right}
 use Rattle.std.proofs.lemmas.Option.{cond_some}
 use Rattle.std.proofs.lemmas.List.Folds.{list_all-append, list_any-append}
-use Rattle.ol_model.specs.Config.{is_name}
+use Rattle.ol_values.specs.Config.{is_name}
 use Rattle.ol_script.specs.Pieces.{first_of}
 use Rattle.ol_script.specs.Words.{are_different, are_names, name_of, names_of}
 

@@ -7,7 +7,7 @@ use Rattle.std.proofs.lemmas.Fmt.{decimal-digits_value, decimal_digit, decimal_n
 use Rattle.std.proofs.lemmas.List.{length-take}
 use Rattle.std.proofs.lemmas.Option.{cond_some}
 use Rattle.std.proofs.lemmas.Str.Parse.{IsNumeralModel, digits_value_short, numerals_by_fold}
-use Rattle.ol_model.specs.Config.{is_digit}
+use Rattle.ol_values.specs.Config.{is_digit}
 use Rattle.ol_script.specs.Words.{is_number, leads_well, number_in, value_of}
 
 abbrev pub AreDigits : List ℕ → Type 0

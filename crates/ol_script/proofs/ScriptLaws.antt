@@ -2,7 +2,7 @@
 use Rattle.std.specs.Prelude.{Err, List, None, Ok, OnOk, Option, Result, Some, [], false, is_ok, length, nat_lt, refl, true, ℕ, ◌++◌, ◌+◌, ◌==◌, ◌∷◌, ◌≡◌}
 use Rattle.std.proofs.Common.{ap, append-nil, append_assoc, arith, sym, tests, ◌∙◌}
 use Rattle.std.proofs.lemmas.Option.{same_Some}
-use Rattle.ol_model.specs.declared.line.Line.{Line}
+use Rattle.ol_values.specs.declared.line.Line.{Line}
 use Rattle.ol_script.proofs.PieceLaws.{has_piece}
 use Rattle.ol_script.proofs.Steps.{bind_some, guard_false}
 use Rattle.ol_script.specs.Forms.{form_of}

@@ -3,8 +3,8 @@ use Rattle.std.specs.Prelude.{Bool, List, [], decimal, false, filter, if◌then�
 use Rattle.std.specs.List.{range_with_len}
 use Rattle.std.proofs.Common.{ap, arith, ◌∙◌}
 use Rattle.std.proofs.lemmas.Fmt.{length-decimal-le}
-use Rattle.ol_model.specs.Config.{number_words}
-use Rattle.ol_model.specs.Text.{slots_told}
+use Rattle.ol_values.specs.Config.{number_words}
+use Rattle.ol_values.specs.Text.{slots_told}
 use Rattle.ol_script.specs.Slots.{slot_text}
 
 pub told_from : ℕ → ℕ → List ℕ

@@ -8,13 +8,13 @@ use Rattle.std.proofs.lemmas.List.Folds.{list_all-append}
 use Rattle.std.proofs.lemmas.Map.Made.{AllPairs-from_IsDistinct, IsDistinct-from_AllPairs}
 use Rattle.std.proofs.lemmas.Option.{cond_some, same_Some}
 use Rattle.std.proofs.lemmas.Slice.Eq.{bytes_eq-Decides}
-use Rattle.ol_model.specs.declared.event.Target.{Target}
-use Rattle.ol_model.specs.declared.event.Target.TheVariants.{At, Reg}
-use Rattle.ol_model.specs.declared.history.Actor.{Actor}
-use Rattle.ol_model.specs.declared.history.Actor.TheVariants.{Archiver, Backer, Checkpointer, Flusher, Session, Warmer}
-use Rattle.ol_model.specs.declared.row.Row.{Row}
-use Rattle.ol_model.specs.Config.{begins_small, is_digit, is_name, is_small_letter}
-use Rattle.ol_model.specs.Text.{actor_text, is_plain}
+use Rattle.ol_values.specs.declared.event.Target.{Target}
+use Rattle.ol_values.specs.declared.event.Target.TheVariants.{At, Reg}
+use Rattle.ol_values.specs.declared.history.Actor.{Actor}
+use Rattle.ol_values.specs.declared.history.Actor.TheVariants.{Archiver, Backer, Checkpointer, Flusher, Session, Warmer}
+use Rattle.ol_values.specs.declared.row.Row.{Row}
+use Rattle.ol_values.specs.Config.{begins_small, is_digit, is_name, is_small_letter}
+use Rattle.ol_values.specs.Text.{actor_text, is_plain}
 use Rattle.ol_script.proofs.NumberLaws.{number_again, number_digits, number_takes}
 use Rattle.ol_script.proofs.PieceLaws.{joined-pieces, lacks, lacks_by, pieces-joined, pieces_whole}
 use Rattle.ol_script.proofs.Steps.{bind_some, chosen, map_some}

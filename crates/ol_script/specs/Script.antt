@@ -1,8 +1,8 @@
 -- A script's text: its lines, or the number of the first line that is off the grammar.
 use Rattle.std.specs.Prelude.{Err, List, None, Ok, Option, Result, Some, [], if◌then◌else◌, length, nat_lt, ℕ, ◌*◌, ◌+◌, ◌∷◌}
-use Rattle.ol_model.specs.declared.history.Actor.{Actor}
-use Rattle.ol_model.specs.declared.line.Form.{Form}
-use Rattle.ol_model.specs.declared.line.Line.{Line}
+use Rattle.ol_values.specs.declared.history.Actor.{Actor}
+use Rattle.ol_values.specs.declared.line.Form.{Form}
+use Rattle.ol_values.specs.declared.line.Line.{Line}
 use Rattle.ol_script.specs.Forms.{form_of}
 use Rattle.ol_script.specs.Pieces.{first_of, pieces_of}
 use Rattle.ol_bytes.specs.Reading.{◌>>=◌}

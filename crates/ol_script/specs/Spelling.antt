@@ -1,16 +1,16 @@
 -- The one spelling of a line, and which lines there are.
 use Rattle.std.specs.List.{AllPairs, list_all}
 use Rattle.std.specs.Prelude.{IsTrue, List, [], codes, decimal, flat_map, length, ℕ, ◌++◌, ◌+◌, ◌∷◌, ◌≡◌, ◌≢◌, ◌≤◌}
-use Rattle.ol_model.specs.declared.event.Target.{Target}
-use Rattle.ol_model.specs.declared.event.Target.TheVariants.{At, Reg}
-use Rattle.ol_model.specs.declared.history.Actor.{Actor}
-use Rattle.ol_model.specs.declared.history.Actor.TheVariants.{Archiver, Backer, Checkpointer, Flusher, Session, Warmer}
-use Rattle.ol_model.specs.declared.line.Form.{Form}
-use Rattle.ol_model.specs.declared.line.Form.TheVariants.{Archive, Backup, Begin, Cancel, Checkpoint, Clean, Commit, Delete, End, Insert, List as ListForm, Read, Restore, Rollback, Start, Switch, Turn, Update}
-use Rattle.ol_model.specs.declared.line.Line.{Line}
-use Rattle.ol_model.specs.declared.row.Row.{Row}
-use Rattle.ol_model.specs.Config.{is_name}
-use Rattle.ol_model.specs.Text.{actor_text, is_plain}
+use Rattle.ol_values.specs.declared.event.Target.{Target}
+use Rattle.ol_values.specs.declared.event.Target.TheVariants.{At, Reg}
+use Rattle.ol_values.specs.declared.history.Actor.{Actor}
+use Rattle.ol_values.specs.declared.history.Actor.TheVariants.{Archiver, Backer, Checkpointer, Flusher, Session, Warmer}
+use Rattle.ol_values.specs.declared.line.Form.{Form}
+use Rattle.ol_values.specs.declared.line.Form.TheVariants.{Archive, Backup, Begin, Cancel, Checkpoint, Clean, Commit, Delete, End, Insert, List as ListForm, Read, Restore, Rollback, Start, Switch, Turn, Update}
+use Rattle.ol_values.specs.declared.line.Line.{Line}
+use Rattle.ol_values.specs.declared.row.Row.{Row}
+use Rattle.ol_values.specs.Config.{is_name}
+use Rattle.ol_values.specs.Text.{actor_text, is_plain}
 use Rattle.ol_script.specs.Pieces.{joined}
 
 abbrev pub register_text : ℕ → List ℕ

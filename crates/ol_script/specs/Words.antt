@@ -1,13 +1,13 @@
 -- The words of a line: actors, registers, places, numbers, rows and names of spaces.
 use Rattle.std.specs.List.{list_all, list_any}
 use Rattle.std.specs.Prelude.{Bool, List, None, Option, Some, [], bytes_eq, false, fold, if◌then◌else◌, length, nat_le, not, option_map, true, ℕ, ◌&&◌, ◌*◌, ◌+◌, ◌-◌, ◌==◌, ◌∷◌}
-use Rattle.ol_model.specs.declared.event.Target.{Target}
-use Rattle.ol_model.specs.declared.event.Target.TheVariants.{At, Reg}
-use Rattle.ol_model.specs.declared.history.Actor.{Actor}
-use Rattle.ol_model.specs.declared.history.Actor.TheVariants.{Archiver, Backer, Checkpointer, Flusher, Session, Warmer}
-use Rattle.ol_model.specs.declared.row.Row.{Row}
-use Rattle.ol_model.specs.Config.{is_digit, is_name}
-use Rattle.ol_model.specs.Text.{is_plain}
+use Rattle.ol_values.specs.declared.event.Target.{Target}
+use Rattle.ol_values.specs.declared.event.Target.TheVariants.{At, Reg}
+use Rattle.ol_values.specs.declared.history.Actor.{Actor}
+use Rattle.ol_values.specs.declared.history.Actor.TheVariants.{Archiver, Backer, Checkpointer, Flusher, Session, Warmer}
+use Rattle.ol_values.specs.declared.row.Row.{Row}
+use Rattle.ol_values.specs.Config.{is_digit, is_name}
+use Rattle.ol_values.specs.Text.{is_plain}
 use Rattle.ol_script.specs.Pieces.{pieces_of, two_of}
 use Rattle.ol_bytes.specs.Reading.{◌>>=◌}
 

@@ -1,15 +1,15 @@
 //! The text of an entry.
 
 ghost use Rattle.std.specs.Prelude.{◌≡◌, ◌≤◌, ◌<◌, ◌+◌, ◌*◌, ◌/◌, ◌%◌, ◌^◌, ◌==◌, ◌∷◌, ◌++◌, decimal, length, take};
-ghost use Rattle.ol_model.specs.Config.{number_words, space_at};
-ghost use Rattle.ol_model.specs.Text.{actor_text, byte_text, colon, counted, entry_text, hex_digit as hex_digit_of, is_plain as is_plain_lem, named, page_text, reply_text, rid_text, row_text, slots_told};
+ghost use Rattle.ol_values.specs.Config.{number_words, space_at};
+ghost use Rattle.ol_values.specs.Text.{actor_text, byte_text, colon, counted, entry_text, hex_digit as hex_digit_of, is_plain as is_plain_lem, named, page_text, reply_text, rid_text, row_text, slots_told};
 ghost use Rattle.ol_script.specs.Slots.{slot_text};
 
 use crate::words::is_plain;
 use itoa::Buffer;
 use ol_bytes::put;
 use ol_chunks::ChunkTable;
-use ol_model::{Actor, Entry, Reply, Rid, Row};
+use ol_values::{Actor, Entry, Reply, Rid, Row};
 
 /// The most bytes of the text of an entry.
 pub const ENTRY_LIMIT: usize = 320;

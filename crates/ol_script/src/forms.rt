@@ -7,7 +7,7 @@ ghost use Rattle.ol_bytes.specs.Reading.{Gives};
 
 use crate::pieces::{next, one, three, two};
 use crate::words::{name_of, names_of, number_in, place_number, register_of, row_of, target_of};
-use ol_model::{Actor, Form, Labels};
+use ol_values::{Actor, Form, Labels};
 
 // The verbs of lines.
 const BEGIN: &[u8] = b"begin";

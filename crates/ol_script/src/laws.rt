@@ -1,9 +1,9 @@
 //! What holds of lines and scripts, whoever reads them.
 
 ghost use Rattle.std.specs.Prelude.{◌≡◌, ◌≤◌, List, ℕ, Ok, Some, length, take};
-ghost use Rattle.ol_model.specs.declared.history.Actor.{Actor as ActorValue};
-ghost use Rattle.ol_model.specs.declared.line.Form.{Form as FormValue};
-ghost use Rattle.ol_model.specs.declared.line.Line.{Line as LineValue};
+ghost use Rattle.ol_values.specs.declared.history.Actor.{Actor as ActorValue};
+ghost use Rattle.ol_values.specs.declared.line.Form.{Form as FormValue};
+ghost use Rattle.ol_values.specs.declared.line.Line.{Line as LineValue};
 ghost use Rattle.ol_script.specs.Script.{line_of, line_with, script_limit, script_of};
 ghost use Rattle.ol_script.specs.Spelling.{AreLinesFrom, IsLineForm, line_text, script_text};
 

@@ -2,7 +2,8 @@
 
 ghost use Rattle.std.specs.Prelude.{◌≡◌, ◌<◌, ◌≤◌, ◌+◌, ◌∷◌, [], ℕ, List, Ok, Err, Some, All, IfNone, IfOk, IfSome, IsErrOf, length, take};
 ghost use Rattle.std.specs.Io.KnownBytes.{Consumes};
-ghost use Rattle.ol_model.specs.History.{Ascends, lines_of, same_actor};
+ghost use Rattle.ol_rules.specs.Scripts.{Ascends, lines_of};
+ghost use Rattle.ol_values.specs.Text.{same_actor};
 ghost use Rattle.ol_outside.specs.Causes.{Rose};
 ghost use Rattle.ol_script.specs.Pieces.{pieces_behind, pieces_of};
 ghost use Rattle.ol_bytes.specs.Reading.{Gives};
@@ -13,8 +14,8 @@ ghost use Rattle.ol_script.specs.Sources.{WasRead};
 use crate::forms::form_of;
 use crate::pieces::{cut, next, position_of};
 use crate::words::actor_of;
-use ol_model::{Actor, Line, Lines, NoMemory};
 use ol_outside::{ReadError, Source, read_all};
+use ol_values::{Actor, Line, Lines, NoMemory};
 use std::alloc::Global;
 use std::marker::Model;
 
@@ -44,7 +45,7 @@ pub struct Script {
 
 impl Model for Script {
     ghost use Rattle.std.specs.Prelude.{List};
-    ghost use Rattle.ol_model.specs.declared.line.Line.{Line};
+    ghost use Rattle.ol_values.specs.declared.line.Line.{Line};
 
     ghost Value = { List Line };
 

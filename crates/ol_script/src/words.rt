@@ -2,14 +2,14 @@
 
 ghost use Rattle.std.specs.Prelude.{◌≡◌, ◌≤◌, ◌||◌, IfSome, IsTrue, bytes_eq, length};
 ghost use Rattle.std.specs.List.{list_all, list_any};
-ghost use Rattle.ol_model.specs.Config.{begins_small, is_digit as is_digit_lem, is_name as is_name_lem, is_small_letter};
-ghost use Rattle.ol_model.specs.Text.{is_plain as is_plain_lem};
+ghost use Rattle.ol_values.specs.Config.{begins_small, is_digit as is_digit_lem, is_name as is_name_lem, is_small_letter};
+ghost use Rattle.ol_values.specs.Text.{is_plain as is_plain_lem};
 ghost use Rattle.ol_script.specs.Pieces.{pieces_behind};
 ghost use Rattle.ol_bytes.specs.Reading.{Gives};
 ghost use Rattle.ol_script.specs.Words.{actor_by, actor_of, is_number as is_number_lem, is_row as is_row_lem, leads_well as leads_well_lem, name_of, names_of, number_in, place_number, place_of, register_of, row_of, target_by, target_of, value_of};
 
 use crate::pieces::{cut, next, two};
-use ol_model::{Actor, LABEL_LIMIT, Label, Labels, NAMES_LIMIT, ROW_LIMIT, Row, Target};
+use ol_values::{Actor, LABEL_LIMIT, Label, Labels, NAMES_LIMIT, ROW_LIMIT, Row, Target};
 
 /// The most digits of a number in a script.
 const DIGITS_LIMIT: usize = 5;

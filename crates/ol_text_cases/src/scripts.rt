@@ -1,9 +1,9 @@
-//! Scripts: the lines of each form, texts that are no script, and the texts of replies.
+//! Scripts: the lines of each form, and the texts of replies.
 
 use crate::configs::SMALL_CONFIG;
 use ol_chunks::{ChunkTable, parse_config};
-use ol_model::{Actor, Entry, Event, Form, Label, Labels, Reply, Rid, Row, Target};
 use ol_script::{ENTRY_LIMIT, ScriptFault, parse_text, text};
+use ol_values::{Actor, Entry, Event, Form, Label, Labels, Reply, Rid, Row, Target};
 use std::process::Abort;
 use std::test::Fail;
 
@@ -42,90 +42,90 @@ const ENGINE_SCRIPT: &[u8] = b"s16 begin\n\
     c1 checkpoint\n\
     w1 restore data1\n";
 
-fn label(bytes: &[u8]) -> Result<Label, Fail> {
-    Ok(Label::new(bytes).ok_or("no label")?)
+fn label(rt: &impl Abort, bytes: &[u8]) -> Label {
+    Label::new(bytes).expect(rt, "no label")
 }
 
-fn row(bytes: &[u8]) -> Result<Row, Fail> {
-    Ok(Row::new(bytes).ok_or("no row")?)
+fn row(rt: &impl Abort, bytes: &[u8]) -> Row {
+    Row::new(bytes).expect(rt, "no row")
 }
 
-fn insert(reg: u8, space: &[u8], bytes: &[u8]) -> Result<Form, Fail> {
-    Ok(Form::Insert {
+fn insert(rt: &impl Abort, reg: u8, space: &[u8], bytes: &[u8]) -> Form {
+    Form::Insert {
         reg,
-        space: label(space)?,
-        row: row(bytes)?,
-    })
+        space: label(rt, space),
+        row: row(rt, bytes),
+    }
 }
 
-fn at(space: &[u8], page: u32, slot: u32) -> Result<Target, Fail> {
-    Ok(Target::At {
-        space: label(space)?,
+fn at(rt: &impl Abort, space: &[u8], page: u32, slot: u32) -> Target {
+    Target::At {
+        space: label(rt, space),
         page,
         slot,
-    })
+    }
 }
 
-fn list(space: &[u8], page: u32) -> Result<Form, Fail> {
-    Ok(Form::List {
-        space: label(space)?,
+fn list(rt: &impl Abort, space: &[u8], page: u32) -> Form {
+    Form::List {
+        space: label(rt, space),
         page,
-    })
+    }
 }
 
-fn update(target: Target, bytes: &[u8]) -> Result<Form, Fail> {
-    Ok(Form::Update {
+fn update(rt: &impl Abort, target: Target, bytes: &[u8]) -> Form {
+    Form::Update {
         target,
-        row: row(bytes)?,
-    })
+        row: row(rt, bytes),
+    }
 }
 
 /// One or two spaces.
-fn spaces(first: &[u8], second: Option<&[u8]>) -> Result<Labels, Fail> {
+fn spaces(rt: &impl Abort, first: &[u8], second: Option<&[u8]>) -> Labels {
     let mut labels = Labels::new();
-    labels.push(label(first)?);
+    labels.push(label(rt, first));
     if let Some(second) = second {
-        labels.push(label(second)?);
+        labels.push(label(rt, second));
     }
-    Ok(labels)
+    labels
 }
 
-fn session_forms() -> Result<[Form; 15], Fail> {
-    Ok([
+fn session_forms(rt: &impl Abort) -> [Form; 15] {
+    [
         Form::Begin,
-        insert(0, b"data1", b"ann")?,
-        insert(9, b"nosuch", b"")?,
-        insert(0, b"a", LONGEST_ROW)?,
-        insert(0, b"a", b"=!~")?,
-        update(Target::Reg(7), b"b")?,
-        update(at(b"data1", 0, 30)?, b"")?,
+        insert(rt, 0, b"data1", b"ann"),
+        insert(rt, 9, b"nosuch", b""),
+        insert(rt, 0, b"a", LONGEST_ROW),
+        insert(rt, 0, b"a", b"=!~"),
+        update(rt, Target::Reg(7), b"b"),
+        update(rt, at(rt, b"data1", 0, 30), b""),
         Form::Delete {
             target: Target::Reg(0),
         },
         Form::Delete {
-            target: at(b"root", 99999, 99999)?,
+            target: at(rt, b"root", 99999, 99999),
         },
         Form::Read {
             target: Target::Reg(1),
         },
         Form::Read {
-            target: at(b"r1", 0, 0)?,
+            target: at(rt, b"r1", 0, 0),
         },
-        list(b"data1", 0)?,
-        list(b"abcdefg9", 99999)?,
+        list(rt, b"data1", 0),
+        list(rt, b"abcdefg9", 99999),
         Form::Commit,
         Form::Rollback,
-    ])
+    ]
 }
 
-fn engine_forms() -> Result<[(Actor, Form); 13], Fail> {
+fn engine_forms(rt: &impl Abort) -> [(Actor, Form); 13] {
     let one = Actor::Archiver(1);
     let four = Actor::Archiver(4);
-    let both = spaces(b"root", Some(b"data1"))?;
-    let other = spaces(b"nosuch", Some(b"root"))?;
-    let data1 = spaces(b"data1", None)?;
-    let space = label(b"data1")?;
-    Ok([
+    let both = spaces(rt, b"root", Some(b"data1"));
+    let other = spaces(rt, b"nosuch", Some(b"root"));
+    let data1 = spaces(rt, b"data1", None);
+    let space = label(rt, b"data1");
+    [
         (Actor::Session(16), Form::Begin),
         (
             one,
@@ -157,7 +157,7 @@ fn engine_forms() -> Result<[(Actor, Form); 13], Fail> {
         (Actor::Flusher, Form::Clean { count: 4 }),
         (Actor::Checkpointer, Form::Checkpoint),
         (Actor::Warmer, Form::Restore { space }),
-    ])
+    ]
 }
 
 #[test]
@@ -165,7 +165,7 @@ fn lines_are_of_their_forms(rt: HostRuntime) -> Result<(), Fail> {
     let Ok(script) = parse_text(rt.alloc(), SESSION_SCRIPT) else {
         panic!(rt; "the script of the session is refused");
     };
-    let forms = session_forms()?;
+    let forms = session_forms(&rt);
     assert_eq!(rt; script.as_slice().len(), forms.len());
     for (index, (line, form)) in script.as_slice().iter().zip(&forms).enumerate() {
         assert_eq!(rt; usize::from(line.number), index + 1);
@@ -175,7 +175,7 @@ fn lines_are_of_their_forms(rt: HostRuntime) -> Result<(), Fail> {
     let Ok(script) = parse_text(rt.alloc(), ENGINE_SCRIPT) else {
         panic!(rt; "the script of the other actors is refused");
     };
-    let forms = engine_forms()?;
+    let forms = engine_forms(&rt);
     assert_eq!(rt; script.as_slice().len(), forms.len());
     for (index, (line, (actor, form))) in script.as_slice().iter().zip(&forms).enumerate() {
         assert_eq!(rt; usize::from(line.number), index + 1);
@@ -206,182 +206,6 @@ fn lines_of_an_actor_keep_their_numbers(rt: HostRuntime) -> Result<(), Fail> {
     Ok(())
 }
 
-/// Lines off the grammar.
-const BAD_LINES: [&str; 124] = [
-    "",
-    " ",
-    "\0",
-    "begin",
-    "s1",
-    "s1 ",
-    "s begin",
-    "s0 begin",
-    "s17 begin",
-    "s01 begin",
-    "s257 begin",
-    "S1 begin",
-    "x1 begin",
-    "s1 begin ",
-    " s1 begin",
-    "s1  begin",
-    "s1\tbegin",
-    "s1 begin\r",
-    "s1 Begin",
-    "s1 begi",
-    "s1 begins",
-    "s1 begin now",
-    "s1 commit 1",
-    "s1 rollback r0",
-    "s1 end",
-    "s1 checkpoint",
-    "a0 end",
-    "a5 end",
-    "a1 begin",
-    "a1 backup 1",
-    "l2 switch",
-    "l switch",
-    "f2 clean 1",
-    "c2 checkpoint",
-    "w2 restore data1",
-    "l1 checkpoint",
-    "c1 switch",
-    "f1 clean",
-    "f1 clean 0",
-    "f1 clean 01",
-    "f1 clean -1",
-    "f1 clean 65536",
-    "f1 clean 65537",
-    "f1 clean 1 1",
-    "a1 turn",
-    "a1 turn 0",
-    "a1 turn 65536",
-    "a1 turn 4294967297",
-    "l1 backup",
-    "l1 backup 0",
-    "l1 backup 18446744073709551617",
-    "l1 switch 1",
-    "c1 checkpoint 1",
-    "w1 restore",
-    "w1 restore ",
-    "w1 restore 1data",
-    "w1 restore data1 root",
-    "a1 end 1",
-    "a1 cancel 1",
-    "a1 start",
-    "a1 start 0",
-    "a1 start root",
-    "a1 start 3 root",
-    "a1 start 00 root",
-    "a1 start 10 root",
-    "a1 start  0 root",
-    "a1 archive",
-    "a1 archive 0",
-    "a1 archive 3 root",
-    "a1 archive 256 root",
-    "a1 archive 0 root ",
-    "a1 archive 0 root  data1",
-    "a1 archive 0 root root",
-    "a1 archive 0 root data1 root",
-    "a1 archive 0 Root",
-    "a1 archive 0 root,data1",
-    "a1 archive 0 abcdefghi",
-    "a1 archive 0 a b c d e f g h i j k l m n o p q",
-    "s1 insert",
-    "s1 insert r0",
-    "s1 insert r0 data1",
-    "s1 insert r data1 =a",
-    "s1 insert r10 data1 =a",
-    "s1 insert R0 data1 =a",
-    "s1 insert data1:0:0 data1 =a",
-    "s1 insert r0 0data =a",
-    "s1 insert r0 abcdefghi =a",
-    "s1 insert r0 data1 a",
-    "s1 insert r0 data1  =a",
-    "s1 insert r0 data1 =a b",
-    "s1 insert r0 data1 =a ",
-    "s1 insert r0 data1 =a =b",
-    "s1 insert r0 data1 =a\\b",
-    "s1 insert r0 data1 =\u{1f}",
-    "s1 insert r0 data1 =\u{7f}",
-    "s1 insert r0 data1 =\u{e9}",
-    "s1 insert r0 data1 =\0",
-    "s1 insert r0 data1 =a\r",
-    "s1 insert r0 data1 =zzzzzzzzzzzzzzzzzzzzzzzzzzzzzzzzzzzzzzzzzzzzzzzzzzzzzzzzzzzzzzzz",
-    "s1 update r0",
-    "s1 update r0 a",
-    "s1 update r0 data1 =a",
-    "s1 update r10 =a",
-    "s1 update data1 =a",
-    "s1 update data1:0 =a",
-    "s1 update data1:0: =a",
-    "s1 update data1::0 =a",
-    "s1 update :0:0 =a",
-    "s1 update data1:0:0:0 =a",
-    "s1 update data1:00:0 =a",
-    "s1 update data1:0:01 =a",
-    "s1 update data1:100000:0 =a",
-    "s1 update data1:0:100000 =a",
-    "s1 delete",
-    "s1 delete r0 =a",
-    "s1 delete Data1:0:0",
-    "s1 read",
-    "s1 read r",
-    "s1 read data1:-1:0",
-    "s1 list data1",
-    "s1 list data1 01",
-    "s1 list data1 100000",
-    "s1 list data1 0 0",
-    "s1 list 0 data1",
-];
-
-/// Texts that are no script, each with the number of its first bad line.
-const BAD_TEXTS: [(&str, u32); 11] = [
-    ("s1 begin", 1),
-    ("\0", 1),
-    (" ", 1),
-    ("s1 begin\ns1 commit", 2),
-    ("s1 begin\ns", 2),
-    ("s1 begin\n\n", 2),
-    ("s1 begin\n \n", 2),
-    ("s1 begin\r\ns1 commit\r\n", 1),
-    ("s1 begin\ns1 commit\n\0", 3),
-    ("l1 switch\nl1 backup 9\nc1 checkpo0int\ns1\n", 3),
-    ("a4 archive 0 data1 root\ns12 rollback\nx", 3),
-];
-
-/// Requires that a text is refused at a line.
-fn require_bad(rt: &(impl Abort + AllocGlobal), text: &str, line: u32) {
-    match parse_text(rt.alloc(), text.as_bytes()) {
-        Ok(_) => panic!(rt; "{text:?} is taken"),
-        Err(fault) => assert_eq!(rt; fault, ScriptFault::BadScript { line }, "at {text:?}"),
-    }
-}
-
-/// Requires that a line is refused where it stands first, and where it stands third.
-fn require_bad_line(rt: &(impl Abort + AllocGlobal), line: &str) -> Result<(), Fail> {
-    let first = format!(in rt.alloc(); "{line}\ns1 begin\n")?;
-    require_bad(rt, first.as_str(), 1);
-    let third = format!(in rt.alloc(); "s1 begin\na1 end\n{line}\nx\n")?;
-    require_bad(rt, third.as_str(), 3);
-    Ok(())
-}
-
-#[test]
-fn broken_lines_are_named(rt: HostRuntime) -> Result<(), Fail> {
-    for line in BAD_LINES {
-        require_bad_line(&rt, line)?;
-    }
-    Ok(())
-}
-
-#[test]
-fn broken_scripts_name_their_first_bad_line(rt: HostRuntime) -> Result<(), Fail> {
-    for (text, line) in BAD_TEXTS {
-        require_bad(&rt, text, line);
-    }
-    Ok(())
-}
-
 #[test]
 fn script_has_65535_lines_at_most(rt: HostRuntime) -> Result<(), Fail> {
     let mut text = String::new(rt.alloc());
@@ -401,15 +225,15 @@ fn script_has_65535_lines_at_most(rt: HostRuntime) -> Result<(), Fail> {
 }
 
 /// Replies with their texts, of the small configuration.
-fn told_replies() -> Result<[(Reply, &'static str); 51], Fail> {
+fn told_replies(rt: &impl Abort) -> [(Reply, &'static str); 51] {
     let (space, page, slot) = (1, 7, 30);
     let rid = Rid { space, page, slot };
-    let rows = row(b"a~! \\\x00\x7f\xff")?;
-    let longest = row(LONGEST_ROW)?;
+    let rows = row(rt, b"a~! \\\x00\x7f\xff");
+    let longest = row(rt, LONGEST_ROW);
     let (number, cut, pages) = (2, 3, 4);
     let (uniq, index) = (18446744073709551615, 9);
     let (drive, volume, block) = (4, 5, 6);
-    Ok([
+    [
         (
             Reply::Begun {
                 txn: 4611686018427387904,
@@ -423,7 +247,7 @@ fn told_replies() -> Result<[(Reply, &'static str); 51], Fail> {
             Reply::RowIs { row: longest },
             "row =zzzzzzzzzzzzzzzzzzzzzzzzzzzzzzzzzzzzzzzzzzzzzzzzzzzzzzzzzzzzzzz",
         ),
-        (Reply::RowIs { row: row(b"")? }, "row ="),
+        (Reply::RowIs { row: row(rt, b"") }, "row ="),
         (Reply::Slots { bits: 0 }, "slots"),
         (Reply::Slots { bits: 0x4000_0405 }, "slots 0 2 10 30"),
         (Reply::Committed { position: 3 }, "committed 3"),
@@ -501,7 +325,7 @@ fn told_replies() -> Result<[(Reply, &'static str); 51], Fail> {
             },
             "badread 1 70000",
         ),
-    ])
+    ]
 }
 
 /// Requires that an entry of this actor, line and reply has this text.
@@ -537,7 +361,7 @@ fn entries_have_their_texts(rt: HostRuntime) -> Result<(), Fail> {
     let Ok(table) = parse_config(rt.alloc(), SMALL_CONFIG.as_bytes()) else {
         panic!(rt; "the configuration is refused");
     };
-    for (reply, wanted) in told_replies()? {
+    for (reply, wanted) in told_replies(&rt) {
         let wanted = format!(in rt.alloc(); "12 s1 {wanted}\n")?;
         require_text(&rt, &table, Actor::Session(1), 12, &reply, wanted.as_str())?;
     }

@@ -2,9 +2,9 @@
 use Rattle.std.specs.List.{list_any, range_with_len}
 use Rattle.std.specs.Option.{option_map}
 use Rattle.std.specs.Prelude.{Bool, Err, List, None, Ok, OnErr, OnOk, Option, Result, Some, [], false, find, if◌then◌else◌, length, not, replicate, slice_index_or, slice_set, true, ℕ, ◌&&◌, ◌+◌, ◌-◌, ◌<◌, ◌==◌, ◌^◌, ◌||◌, ◌∷◌, ◌≡◌, ◌≤◌}
-use Rattle.ol_model.specs.declared.record.Rid.{Rid}
-use Rattle.ol_model.specs.declared.row.Row.{Row}
-use Rattle.ol_model.specs.Locks.{Holding, holding_of, in_way, is_locked, least_other, owed_by_holding, owed_in, owns, shares}
+use Rattle.ol_values.specs.declared.record.Rid.{Rid}
+use Rattle.ol_values.specs.declared.row.Row.{Row}
+use Rattle.ol_rules.specs.Locks.{Holding, holding_of, in_way, is_locked, least_other, owed_by_holding, owed_in, owns, shares}
 use Rattle.ol_txn.specs.Seats.{IsSession, Seat, changing, empty_seat, filled, no_locks, owned_more, owning, seat_of, shared_more, sharing, table_of, undoing}
 use Rattle.std.proofs.Common.{ap, arith, cond, eq-eqb, ne_eqb, refl, sym, suc, zero, ◌∙◌}
 use Rattle.std.proofs.lemmas.List.{length-drop, length-map, length-set, map-set}

@@ -7,14 +7,14 @@ use Rattle.std.proofs.lemmas.Bool.Decides.{eqb_tells}
 use Rattle.std.proofs.lemmas.List.{get_or-set_other, get_or-set_same, length-set, set-get_or, set-set, set_comm}
 use Rattle.std.proofs.lemmas.List.Elements.{All-head, All-tail}
 use Rattle.std.proofs.lemmas.List.Sums.{sum_by-cons, sum_by-set}
-use Rattle.ol_model.specs.declared.record.Rid.{Rid}
-use Rattle.ol_model.specs.declared.row.Row.{Row}
-use Rattle.ol_model.specs.Locks.{Holding, lesser, low_in, owed_by_holding, owed_in}
-use Rattle.ol_model.specs.Sound.{IsOne}
-use Rattle.ol_model.specs.Transactions.{Txn, at_txn, low_of, owed, owed_by, txn_numbered, without_txn}
-use Rattle.ol_model.proofs.Found.{found_any}
-use Rattle.ol_model.proofs.JournalLaws.{same_self}
-use Rattle.ol_model.proofs.TxnLaws.{Ascending, Distinct, IsNew, at_txn-other, without_txn-other}
+use Rattle.ol_values.specs.declared.record.Rid.{Rid}
+use Rattle.ol_values.specs.declared.row.Row.{Row}
+use Rattle.ol_rules.specs.Locks.{Holding, lesser, low_in, owed_by_holding, owed_in}
+use Rattle.ol_rules.specs.Sound.{IsOne}
+use Rattle.ol_rules.specs.Transactions.{Ascending, Txn, at_txn, low_of, owed, owed_by, txn_numbered, without_txn}
+use Rattle.ol_laws.proofs.Found.{found_any}
+use Rattle.ol_laws.proofs.JournalLaws.{same_self}
+use Rattle.ol_laws.proofs.TxnLaws.{Distinct, IsNew, at_txn-other, without_txn-other}
 use Rattle.ol_txn.specs.Telling.{IsIdle, IsOf, Tells, first_number, held}
 
 -- ---- one index of a table

@@ -8,21 +8,21 @@ use Rattle.std.proofs.lemmas.Bool.{cases_Bool, or_parts, or_right}
 use Rattle.std.proofs.lemmas.Bool.Decides.{eqb_tells}
 use Rattle.std.proofs.lemmas.List.{get_or-set_same, length-map, map-set, set-set}
 use Rattle.std.proofs.lemmas.List.Folds.{list_any-append}
-use Rattle.ol_model.specs.declared.record.Record.{Record}
-use Rattle.ol_model.specs.declared.record.Record.TheVariants.{Begin as BeginRecord, Change, Commit as CommitRecord, Rolled, Undo}
-use Rattle.ol_model.specs.declared.record.Rid.{Rid}
-use Rattle.ol_model.specs.declared.row.Row.{Row}
-use Rattle.ol_model.specs.Config.{Config, has_place}
-use Rattle.ol_model.specs.Journal.{same_place}
-use Rattle.ol_model.specs.Locks.{Holding, holder_of, holding_of, in_way, is_among, least_other, owns, shares}
-use Rattle.ol_model.specs.Sound.{Before, IsNewChange, IsNewUndo, IsOne, Meets, Sound, is_free_for, start}
-use Rattle.ol_model.specs.Transactions.{Txn, begun as begun_txn, open_at, txn_numbered, txns_after, with_change, with_undo, without_txn}
-use Rattle.ol_model.proofs.Found.{one_as}
-use Rattle.ol_model.proofs.LockLaws.{same_place_is}
-use Rattle.ol_model.proofs.SoundLaws.{fine, txns_of}
-use Rattle.ol_model.proofs.TxnLaws.{distinct}
+use Rattle.ol_values.specs.declared.record.Record.{Record}
+use Rattle.ol_values.specs.declared.record.Record.TheVariants.{Begin as BeginRecord, Change, Commit as CommitRecord, Rolled, Undo}
+use Rattle.ol_values.specs.declared.record.Rid.{Rid}
+use Rattle.ol_values.specs.declared.row.Row.{Row}
+use Rattle.ol_values.specs.Config.{Config, has_place}
+use Rattle.ol_rules.specs.Journal.{same_place}
+use Rattle.ol_rules.specs.Locks.{Holding, holder_of, holding_of, in_way, is_among, least_other, owns, shares}
+use Rattle.ol_rules.specs.Sound.{Before, IsNewChange, IsNewUndo, IsOne, Meets, Sound, is_free_for, is_value, start}
+use Rattle.ol_rules.specs.Transactions.{Ascending, Txn, begun as begun_txn, open_at, txn_numbered, txns_after, with_change, with_undo, without_txn}
+use Rattle.ol_laws.proofs.Found.{one_as}
+use Rattle.ol_laws.proofs.LockLaws.{same_place_is}
+use Rattle.ol_laws.proofs.SoundLaws.{fine, txns_of}
+use Rattle.ol_laws.proofs.TxnLaws.{distinct}
 use Rattle.ol_txn.specs.Seats.{IsSession, Seat, begun, begun_seat, changing, empty_seat, filled, forgotten_seat, last_of, no_locks, noted_seat, owned_more, owning, pending_of, reserved_seat, seat_of, shared_more, sharing, table_of, undoing, undone_seat, with_seat}
-use Rattle.ol_txn.specs.Telling.{Ascending, IsOf, Tells, held}
+use Rattle.ol_txn.specs.Telling.{IsOf, Tells, held}
 use Rattle.ol_txn.proofs.SeatLaws.{holding_at}
 use Rattle.ol_txn.proofs.TellingLaws.{all_told, held_open, one_held, tells_begun, tells_ended, tells_kept, tells_step, told_room, unchanged, within}
 
@@ -204,10 +204,10 @@ open_as : (P : Txn → Type 0) (b : Before) (seats : List Seat) (k n : ℕ) (h :
 open_as P b seats k n h asc e is told gives = subst (λ m. IsOne (txn_numbered m b.txns) P) is (one_as (IsOf h) P (txn_numbered h.number b.txns) gives (told_open b.txns seats k h asc e told))
 
 pub may_change : (c : Config) (b : Before) (seats : List Seat) (k n : ℕ) (h : Holding) (rid : Rid) (before after : Option Row) → length seats ≡ 16 → Ascending b.txns → (seat_of seats k).holding ≡ Some h → h.number ≡ n
-    → h.undone ≡ false → holder_of (table_of seats) k rid true ≡ None → before ≡ b.row rid → (is_some before || is_some after) ≡ true → has_place c rid ≡ true → Tells b.txns (table_of seats) → Meets c b (Change n rid before after)
-may_change c b seats k n h rid before after long asc e is forward none held something there told =
+    → h.undone ≡ false → holder_of (table_of seats) k rid true ≡ None → before ≡ b.row rid → (is_some before || is_some after) ≡ true → is_value after ≡ true → has_place c rid ≡ true → Tells b.txns (table_of seats) → Meets c b (Change n rid before after)
+may_change c b seats k n h rid before after long asc e is forward none held something value there told =
     open_as (IsNewChange c b n rid before after) b seats k n h asc e is told
-    (λ t of. record { held = held; something = something; forward = sym of.undone ∙ forward; alone = told_free b seats k n h rid long e is none told; there = there })
+    (λ t of. record { held = held; something = something; value = value; forward = sym of.undone ∙ forward; alone = told_free b seats k n h rid long e is none told; there = there })
 
 pub may_undo : (c : Config) (b : Before) (seats : List Seat) (k n : ℕ) (h : Holding) (rid : Rid) (value : Option Row) → Ascending b.txns → (seat_of seats k).holding ≡ Some h → h.number ≡ n
     → last_of (seat_of seats k) ≡ Some (rid, value) → has_place c rid ≡ true → Tells b.txns (table_of seats) → Meets c b (Undo n rid value)

@@ -1,9 +1,9 @@
 -- The lock table as a value: a seat for each of the sessions 1 to 16.
 use Rattle.std.specs.Option.{option_map}
 use Rattle.std.specs.Prelude.{Bool, IsSome, List, None, Option, Some, [], drop, false, if◌then◌else◌, map, max, replicate, reverse, slice_get, slice_index_or, slice_set, true, ℕ, ◌++◌, ◌+◌, ◌-◌, ◌∷◌, ◌≡◌, ◌≤◌}
-use Rattle.ol_model.specs.declared.record.Rid.{Rid}
-use Rattle.ol_model.specs.declared.row.Row.{Row}
-use Rattle.ol_model.specs.Locks.{Holding, owns, shares}
+use Rattle.ol_values.specs.declared.record.Rid.{Rid}
+use Rattle.ol_values.specs.declared.row.Row.{Row}
+use Rattle.ol_rules.specs.Locks.{Holding, owns, shares}
 
 -- what a session holds, and how many locks and changes more it can hold before memory is needed
 pub record Seat : Type 0 where

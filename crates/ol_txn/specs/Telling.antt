@@ -1,10 +1,10 @@
 -- That the sessions hold what the journal's open transactions are.
 use Rattle.std.specs.List.{list_any}
 use Rattle.std.specs.Prelude.{All, List, None, Option, Some, [], slice_index_or, slice_set, ℕ, ◌<◌, ◌∷◌, ◌≡◌}
-use Rattle.ol_model.specs.declared.record.Rid.{Rid}
-use Rattle.ol_model.specs.Journal.{same_place}
-use Rattle.ol_model.specs.Locks.{Holding, is_among}
-use Rattle.ol_model.specs.Transactions.{Txn}
+use Rattle.ol_values.specs.declared.record.Rid.{Rid}
+use Rattle.ol_rules.specs.Journal.{same_place}
+use Rattle.ol_rules.specs.Locks.{Holding, is_among}
+use Rattle.ol_rules.specs.Transactions.{Txn}
 
 -- a session holds this transaction, and owns the places that it changed
 pub record IsOf (h : Holding) (t : Txn) : Type 0 where
@@ -30,8 +30,3 @@ Tells (t ∷ txns) table = (i : ℕ) × (h : Holding) × (held table i ≡ Some 
 abbrev pub first_number : List Txn → Option ℕ
 first_number [] = None
 first_number (t ∷ txns) = Some t.number
-
--- each of these transactions has a lesser number than those behind it
-abbrev pub Ascending : List Txn → Type 0
-Ascending [] = Unit {0}
-Ascending (t ∷ txns) = All (λ (u : Txn). t.number < u.number) txns × Ascending txns

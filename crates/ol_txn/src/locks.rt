@@ -2,14 +2,14 @@
 
 ghost use Rattle.std.specs.Prelude.{◌≡◌, ◌≤◌, ◌<◌, ◌^◌, Err, IsOk, None, OnErr, OnOk, false, is_some, length, true};
 ghost use Rattle.std.specs.Option.{option_map};
-ghost use Rattle.ol_model.specs.Locks.{holder_of, is_locked, low_in, owed_by_holding, owed_in};
+ghost use Rattle.ol_rules.specs.Locks.{holder_of, is_locked, low_in, owed_by_holding, owed_in};
 ghost use Rattle.ol_txn.specs.Faults.{held_by};
 ghost use Rattle.ol_txn.specs.Seats.{HasTxn, IsSession, begun_seat, forgotten_seat, has_undone, last_of, no_locks, noted_seat, owned_more, pending_of, reserved_seat, seat_of, shared_more, table_of, undone_seat, with_seat};
 
 use crate::NoMemory;
 use crate::fault::LockFault;
 use crate::seat::Seat;
-use ol_model::{Rid, Row};
+use ol_values::{Rid, Row};
 use std::alloc::Global;
 use std::marker::Model;
 
@@ -24,7 +24,7 @@ pub struct Locks {
 
 impl Model for Locks {
     ghost use Rattle.std.specs.Prelude.{◌≡◌, ◌≤◌, ◌^◌, List, length};
-    ghost use Rattle.ol_model.specs.Locks.{owed_in};
+    ghost use Rattle.ol_rules.specs.Locks.{owed_in};
     ghost use Rattle.ol_txn.specs.Seats.{Seat as SeatValue, table_of};
 
     ghost Value = { List SeatValue };

@@ -2,12 +2,12 @@
 
 ghost use Rattle.std.specs.Prelude.{◌≡◌, ◌≤◌, ◌<◌, ◌^◌, None, IsSome, OnErr, OnOk, is_some, length};
 ghost use Rattle.std.specs.Option.{option_map};
-ghost use Rattle.ol_model.specs.Locks.{in_way, lesser, owed_by_holding, owns, shares};
+ghost use Rattle.ol_rules.specs.Locks.{in_way, lesser, owed_by_holding, owns, shares};
 ghost use Rattle.ol_txn.specs.Seats.{begun_seat, empty_seat, forgotten_seat, has_undone, last_of, noted_seat, owned_more, pending_of, reserved_seat, shared_more, undone_seat};
 
 use crate::NoMemory;
 use indexmap::IndexSet;
-use ol_model::{Rid, Row};
+use ol_values::{Rid, Row};
 use std::alloc::Global;
 use std::marker::Model;
 

@@ -1,6 +1,6 @@
 use Rattle.std.proofs.Common.{[], ◌++◌, ◌∷◌, ◌≡◌, drop, slice_index}
 use Rattle.std.specs.List.{flat_map}
-use Rattle.ol_model.specs.Config.{SpaceConfig}
+use Rattle.ol_values.specs.Config.{SpaceConfig}
 use Rattle.ol_chunks.proofs.layout.size_of_chunk.Given as goal
 
 abbrev pub invariant-loop-s : goal.invariant-loop-s

@@ -1,6 +1,6 @@
 use Rattle.std.proofs.Common.{drop, ◌≡◌}
 use Rattle.std.specs.Option.{option_map}
-use Rattle.ol_model.specs.Archivers.{spaces_named}
+use Rattle.ol_core.specs.Archivers.{spaces_named}
 use Rattle.ol_core.specs.Filled.{marked, no_marks}
 use Rattle.ol_core.proofs.choice.choose.Given as goal
 

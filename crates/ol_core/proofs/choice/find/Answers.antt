@@ -1,5 +1,5 @@
 use Rattle.std.proofs.Common.{ap, sym, ◌∙◌}
-use Rattle.ol_model.specs.Config.{is_name}
+use Rattle.ol_values.specs.Config.{is_name}
 use Rattle.ol_core.proofs.Marks.{no_name}
 use Rattle.ol_core.proofs.choice.find.Goals as goal
 

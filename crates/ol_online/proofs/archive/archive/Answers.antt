@@ -1,6 +1,6 @@
 use Rattle.std.proofs.Common.{subst, sym}
 use Rattle.ol_core.specs.Core.{Seen}
-use Rattle.ol_model.specs.Machine.{journal_in}
+use Rattle.ol_core.specs.Machine.{journal_in}
 use Rattle.ol_online.specs.declared.archive.PlayEnd.TheVariants.{NoMemory}
 use Rattle.ol_online.specs.Playing.{EndsPlay, job_of}
 use Rattle.ol_online.proofs.LineLaws.{starved_first}

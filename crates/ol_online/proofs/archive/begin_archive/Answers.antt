@@ -1,7 +1,7 @@
 use Rattle.std.proofs.Common.{List, ap, subst, sym, ℕ, ◌≡◌}
 use Rattle.ol_core.specs.Core.{Takes}
-use Rattle.ol_model.specs.declared.event.Event.TheVariants.{ArchiveStart}
-use Rattle.ol_model.specs.declared.line.Form.{Form}
+use Rattle.ol_values.specs.declared.event.Event.TheVariants.{ArchiveStart}
+use Rattle.ol_values.specs.declared.line.Form.{Form}
 use Rattle.ol_online.specs.Playing.{names_in}
 use Rattle.ol_online.proofs.LineLaws.{begun}
 use Rattle.ol_online.proofs.archive.begin_archive.Goals as goal

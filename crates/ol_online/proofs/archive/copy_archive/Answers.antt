@@ -1,8 +1,8 @@
 use Rattle.std.proofs.Common.{List, ap, subst, ℕ, ◌≡◌, ◌∙◌}
-use Rattle.ol_model.specs.Blocks.{ArchiveHead, header_kind}
-use Rattle.ol_model.specs.Config.{Config}
-use Rattle.ol_model.specs.Machine.{Fixed, formatted}
-use Rattle.ol_model.specs.Tape.{end_block, head_at}
+use Rattle.ol_values.specs.Blocks.{ArchiveHead, header_kind}
+use Rattle.ol_values.specs.Config.{Config}
+use Rattle.ol_core.specs.Machine.{Fixed, formatted}
+use Rattle.ol_core.specs.Tape.{end_block, head_at}
 use Rattle.ol_object.specs.Bytes.{bytes_of}
 use Rattle.ol_volume.specs.Written.{Puts}
 use Rattle.ol_core.specs.Core.{archive_in}

@@ -1,6 +1,6 @@
 use Rattle.std.proofs.Common.{◌∙◌}
-use Rattle.ol_model.specs.Journal.{page_at}
-use Rattle.ol_model.specs.Machine.{journal_in}
+use Rattle.ol_rules.specs.Journal.{page_at}
+use Rattle.ol_core.specs.Machine.{journal_in}
 use Rattle.ol_online.proofs.BlockLaws.{page_block_is}
 use Rattle.ol_online.proofs.archive.encode_page.Goals as goal
 

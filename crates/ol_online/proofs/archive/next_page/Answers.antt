@@ -1,8 +1,8 @@
 use Rattle.std.proofs.Common.{subst, ◌∙◌}
 use Rattle.ol_core.specs.Core.{Takes}
-use Rattle.ol_model.specs.declared.event.Event.TheVariants.{ArchiveTurn}
-use Rattle.ol_model.specs.declared.event.Reply.{Reply}
-use Rattle.ol_model.specs.declared.event.Reply.TheVariants.{PageIs}
+use Rattle.ol_values.specs.declared.event.Event.TheVariants.{ArchiveTurn}
+use Rattle.ol_values.specs.declared.event.Reply.{Reply}
+use Rattle.ol_values.specs.declared.event.Reply.TheVariants.{PageIs}
 use Rattle.ol_online.proofs.ArchiveLaws.{copied_by, fewer_left, page_block, paged, took, took_page, turn_of}
 use Rattle.ol_online.proofs.archive.next_page.Goals as goal
 

@@ -1,6 +1,6 @@
 use Rattle.std.proofs.Common.{List, ap, length, take, ◌∙◌, ℕ}
-use Rattle.ol_model.specs.Blocks.{ArchiveHead}
-use Rattle.ol_model.specs.Config.{config_text}
+use Rattle.ol_values.specs.Blocks.{ArchiveHead}
+use Rattle.ol_values.specs.Config.{config_text}
 use Rattle.ol_object.specs.Bytes.{archive_head_bytes, padded_to}
 use Rattle.ol_object.specs.Spaces.{archive_head_of}
 use Rattle.ol_online.proofs.BlockLaws.{head_made, text_front}

@@ -1,5 +1,5 @@
 use Rattle.std.proofs.Common.{List, subst, sym, ℕ}
-use Rattle.ol_model.specs.Blocks.{ArchiveHead}
+use Rattle.ol_values.specs.Blocks.{ArchiveHead}
 use Rattle.ol_volume.specs.Written.{EndsPut, Puts}
 use Rattle.ol_online.specs.Blocks.{IsHead}
 use Rattle.ol_online.proofs.ArchiveLaws.{finished, head_is, sync_refused, trailer_is, trailer_put, trailer_refused}

@@ -1,5 +1,5 @@
 use Rattle.std.proofs.Common.{List, [], ap, arith, false, length, length-append, map, sym, true, ◌++◌, ◌+◌, ◌<◌, ◌∷◌, ◌∙◌, ℕ}
-use Rattle.ol_model.specs.Saveset.{Saved}
+use Rattle.ol_values.specs.Blocks.{Saved}
 use Rattle.ol_object.specs.Spaces.{saved_of}
 use Rattle.ol_online.proofs.BlockLaws.{saved_from, saved_more, saved_next}
 use Rattle.ol_online.proofs.archive.saved_spaces.Goals as goal

@@ -1,5 +1,5 @@
 use Rattle.std.proofs.Common.{List, ℕ}
-use Rattle.ol_model.specs.declared.line.Line.{Line}
+use Rattle.ol_values.specs.declared.line.Line.{Line}
 use Rattle.ol_volume.specs.Written.{Written}
 use Rattle.ol_online.specs.Playing.{IsCopying, Job, pages_left}
 use Rattle.ol_online.proofs.archive.take_pages.Given as goal

@@ -1,6 +1,6 @@
 use Rattle.std.proofs.Common.{◌+◌, drop, ◌∙◌, ℕ, List, take, subst}
 use Rattle.std.specs.Io.KnownBytes.{Appends}
-use Rattle.ol_model.specs.Text.{text}
+use Rattle.ol_values.specs.Text.{text}
 use Rattle.ol_online.proofs.OutputLaws.{at_entry, ends_line_true, ends_line_false, in_line_order_at, in_line_order_after, on_err, written_more, written_part, written_skip}
 use Rattle.ol_online.proofs.output.write_history.Goals as goal
 use Rattle.ol_online.proofs.output.write_history.Goals.{then-ends_line+in_ok-write_all, else-ends_line}

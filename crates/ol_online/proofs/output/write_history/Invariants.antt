@@ -1,5 +1,5 @@
 use Rattle.std.proofs.Common.{◌≡◌, drop}
-use Rattle.ol_model.specs.Text.{IsInLineOrder, text}
+use Rattle.ol_values.specs.Text.{IsInLineOrder, text}
 use Rattle.ol_online.proofs.OutputLaws.{IsWritten}
 use Rattle.ol_online.proofs.output.write_history.Given as goal
 

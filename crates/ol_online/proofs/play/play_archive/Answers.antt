@@ -1,8 +1,8 @@
 use Rattle.std.proofs.Common.{ap, inl, refl, subst, ◌≡◌}
 use Rattle.std.specs.Prelude.{IfSome, None, Option, Some, false, option_to_list}
-use Rattle.ol_model.specs.declared.line.Line.{Line}
-use Rattle.ol_model.specs.Lines.{First}
-use Rattle.ol_model.specs.Machine.{journal_in}
+use Rattle.ol_values.specs.declared.line.Line.{Line}
+use Rattle.ol_core.specs.Lines.{First}
+use Rattle.ol_core.specs.Machine.{journal_in}
 use Rattle.ol_online.specs.Playing.{IsNamed, IsReached, job_of, line_in}
 use Rattle.ol_online.proofs.PlayLaws.{run_order, run_stopped}
 use Rattle.ol_online.proofs.WholePlay.{archive_order, archive_short, archive_well}

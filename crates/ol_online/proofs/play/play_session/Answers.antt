@@ -1,8 +1,8 @@
 use Rattle.std.proofs.Common.{List, drop, inr, refl, subst, sym, ◌++◌, ◌+◌}
 use Rattle.ol_core.specs.Core.{Seen}
 use Rattle.std.specs.Prelude.{true}
-use Rattle.ol_model.specs.declared.line.Line.{Line}
-use Rattle.ol_model.specs.Lines.{First}
+use Rattle.ol_values.specs.declared.line.Line.{Line}
+use Rattle.ol_core.specs.Lines.{First}
 use Rattle.ol_online.specs.Playing.{IsReached, IsRun}
 use Rattle.ol_online.proofs.PlayLaws.{run_stopped}
 use Rattle.ol_online.proofs.WholePlay.{next_line}

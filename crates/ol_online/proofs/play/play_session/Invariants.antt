@@ -1,7 +1,7 @@
 use Rattle.std.proofs.Common.{List, drop, ◌++◌}
-use Rattle.ol_model.specs.declared.line.Line.{Line}
-use Rattle.ol_model.specs.Config.{Config}
-use Rattle.ol_model.specs.Lines.{First}
+use Rattle.ol_values.specs.declared.line.Line.{Line}
+use Rattle.ol_values.specs.Config.{Config}
+use Rattle.ol_core.specs.Lines.{First}
 use Rattle.ol_core.specs.Core.{IsIdle}
 use Rattle.ol_online.specs.Playing.{IsReached, IsWaiting}
 use Rattle.ol_online.proofs.play.play_session.Given as goal

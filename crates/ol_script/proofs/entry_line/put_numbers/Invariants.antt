@@ -1,5 +1,5 @@
 use Rattle.std.proofs.Common.{drop, length, take, ◌*◌, ◌++◌, ◌+◌, ◌≡◌, ◌≤◌}
-use Rattle.ol_model.specs.Config.{number_words}
+use Rattle.ol_values.specs.Config.{number_words}
 use Rattle.ol_script.proofs.entry_line.put_numbers.Given as goal
 
 abbrev pub invariant-loop-number : goal.invariant-loop-number

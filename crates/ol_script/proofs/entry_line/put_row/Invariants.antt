@@ -1,5 +1,5 @@
 use Rattle.std.proofs.Common.{drop, flat_map, length, take, ◌*◌, ◌++◌, ◌+◌, ◌≡◌, ◌≤◌}
-use Rattle.ol_model.specs.Text.{byte_text, row_text}
+use Rattle.ol_values.specs.Text.{byte_text, row_text}
 use Rattle.ol_script.proofs.entry_line.put_row.Given as goal
 
 abbrev pub invariant-loop-byte : goal.invariant-loop-byte

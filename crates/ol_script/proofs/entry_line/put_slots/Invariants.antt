@@ -1,6 +1,6 @@
 use Rattle.std.proofs.Common.{length, take, ◌*◌, ◌++◌, ◌+◌, ◌≡◌, ◌≤◌}
-use Rattle.ol_model.specs.Config.{number_words}
-use Rattle.ol_model.specs.Text.{slots_told}
+use Rattle.ol_values.specs.Config.{number_words}
+use Rattle.ol_values.specs.Text.{slots_told}
 use Rattle.ol_script.proofs.SlotLaws.{told_from}
 use Rattle.ol_script.proofs.entry_line.put_slots.Given as goal
 

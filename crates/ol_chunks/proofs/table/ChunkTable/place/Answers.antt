@@ -1,6 +1,6 @@
 use Rattle.std.proofs.Common.{◌+◌, ◌<◌, ◌≡◌, ap, arith, length, sym, ◌∙◌}
 use Rattle.std.proofs.lemmas.List.{get_or_read}
-use Rattle.ol_model.specs.Config.{SpaceConfig, space_at, unnamed}
+use Rattle.ol_values.specs.Config.{SpaceConfig, space_at, unnamed}
 use Rattle.ol_chunks.specs.Drafts.{config_in}
 use Rattle.ol_chunks.proofs.Chunks.{place_inside}
 use Rattle.ol_chunks.proofs.table.ChunkTable.place.Goals as goal

@@ -1,7 +1,7 @@
 use Rattle.std.proofs.Common.{List, [], ap, false, ◌++◌, ◌+◌, ◌∷◌, ◌≡◌, ◌∙◌}
 use Rattle.std.specs.Option.{is_some}
-use Rattle.ol_model.specs.declared.record.Record.{Record}
-use Rattle.ol_model.specs.declared.record.Record.TheVariants.{Begin}
+use Rattle.ol_values.specs.declared.record.Record.{Record}
+use Rattle.ol_values.specs.declared.record.Record.TheVariants.{Begin}
 use Rattle.ol_core.specs.Core.{Seen}
 use Rattle.ol_core.proofs.Kept.{kept_begin}
 use Rattle.ol_core.proofs.core_turns.Core.begin.Goals as goal

@@ -1,6 +1,6 @@
 use Rattle.std.proofs.Common.{List, [], ap, ◌++◌, ◌∷◌, ◌∙◌}
-use Rattle.ol_model.specs.declared.record.Record.{Record}
-use Rattle.ol_model.specs.declared.record.Record.TheVariants.{Commit}
+use Rattle.ol_values.specs.declared.record.Record.{Record}
+use Rattle.ol_values.specs.declared.record.Record.TheVariants.{Commit}
 use Rattle.ol_core.specs.Core.{Seen}
 use Rattle.ol_core.proofs.Kept.{kept_commit}
 use Rattle.ol_core.proofs.core_turns.Core.commit.Goals as goal

@@ -1,8 +1,8 @@
 use Rattle.std.proofs.Common.{List, None, Some, [], ap, arith, length, refl, rules, sym, ◌*◌, ◌++◌, ◌+◌, ◌<◌, ◌∷◌, ◌≡◌, ◌∙◌}
-use Rattle.ol_model.specs.declared.record.Record.{Record}
-use Rattle.ol_model.specs.declared.record.Record.TheVariants.{Change}
-use Rattle.ol_model.specs.declared.record.Rid.{Rid}
-use Rattle.ol_model.specs.Config.{data_pages}
+use Rattle.ol_values.specs.declared.record.Record.{Record}
+use Rattle.ol_values.specs.declared.record.Record.TheVariants.{Change}
+use Rattle.ol_values.specs.declared.record.Rid.{Rid}
+use Rattle.ol_values.specs.Config.{data_pages}
 use Rattle.ol_core.specs.Core.{Seen}
 use Rattle.ol_core.specs.Filled.{filled_at, slot_at}
 use Rattle.ol_core.proofs.Changed.{row_in}

@@ -1,7 +1,7 @@
 use Rattle.std.proofs.Common.{ap, arith, length, subst, sym, ◌/◌, ◌<◌, ℕ}
 use Rattle.std.specs.Result.{OnOk}
 use Rattle.std.proofs.lemmas.List.{get_or-set_same, get_or_read}
-use Rattle.ol_model.specs.Config.{data_pages}
+use Rattle.ol_values.specs.Config.{data_pages}
 use Rattle.ol_core.specs.Filled.{AreFilled, Filled, IsFilled, no_rows}
 use Rattle.ol_core.proofs.Steps.{each_set}
 use Rattle.ol_core.proofs.pages.Pages.make_room.Goals as goal

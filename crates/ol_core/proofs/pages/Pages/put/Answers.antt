@@ -1,6 +1,6 @@
 use Rattle.std.proofs.Common.{List, [], ap, arith, length, subst, sym, ◌++◌, ◌<◌, ◌∷◌, ◌≡◌, ◌∙◌, ℕ}
 use Rattle.std.proofs.lemmas.List.{get_or_read}
-use Rattle.ol_model.specs.Config.{data_pages}
+use Rattle.ol_values.specs.Config.{data_pages}
 use Rattle.ol_core.specs.Filled.{AreFilled, Filled, IsFilled, filled_at, no_rows}
 use Rattle.ol_core.proofs.Changed.{filled_other, row_in}
 use Rattle.ol_core.proofs.Steps.{each_set}

@@ -1,7 +1,7 @@
 use Rattle.std.proofs.Common.{List, Some, [], ap, arith, length, slice_set, subst, sym, ◌++◌, ◌+◌, ◌%◌, ◌/◌, ◌<◌, ◌∷◌, ◌≡◌, ◌∙◌, ℕ}
 use Rattle.std.proofs.lemmas.List.{get_or_read}
-use Rattle.ol_model.specs.declared.row.Row.{Row}
-use Rattle.ol_model.specs.Image.{page_bytes, with_slot}
+use Rattle.ol_values.specs.declared.row.Row.{Row}
+use Rattle.ol_values.specs.Image.{page_bytes, with_slot}
 use Rattle.ol_core.specs.Filled.{Filled, IsFilled, blank_image}
 use Rattle.ol_core.proofs.Changed.{PutsRow, filled_row, row_in}
 use Rattle.ol_core.proofs.Held.{held}

@@ -1,5 +1,5 @@
 use Rattle.std.proofs.Common.{refl, ap, length, arith}
-use Rattle.ol_model.specs.Held.{held_written}
+use Rattle.ol_values.specs.Held.{held_written}
 use Rattle.ol_reserve.proofs.config_text.ConfigText.new.Goals as goal
 
 pub invariant_of-result : goal.invariant_of-result

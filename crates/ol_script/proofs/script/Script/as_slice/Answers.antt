@@ -1,6 +1,6 @@
 use Rattle.std.proofs.Common.{All, List, subst}
-use Rattle.ol_model.specs.declared.line.Line.{Line}
-use Rattle.ol_model.specs.History.{Ascends}
+use Rattle.ol_values.specs.declared.line.Line.{Line}
+use Rattle.ol_rules.specs.Scripts.{Ascends}
 use Rattle.ol_script.proofs.LineLaws.{forms_from, rising_from}
 use Rattle.ol_script.specs.Spelling.{IsLine}
 use Rattle.ol_script.proofs.script.Script.as_slice.Goals as goal

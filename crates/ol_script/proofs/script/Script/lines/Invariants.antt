@@ -1,5 +1,5 @@
 use Rattle.std.proofs.Common.{drop, ◌++◌, ◌≡◌}
-use Rattle.ol_model.specs.History.{lines_of}
+use Rattle.ol_rules.specs.Scripts.{lines_of}
 use Rattle.ol_script.proofs.script.Script.lines.Given as goal
 
 abbrev pub invariant-loop-line : goal.invariant-loop-line

@@ -1,5 +1,5 @@
 use Rattle.std.proofs.Common.{ap, arith, sym, ℕ, ◌≡◌, ◌∙◌}
-use Rattle.ol_model.specs.Locks.{holding_of, in_way}
+use Rattle.ol_rules.specs.Locks.{holding_of, in_way}
 use Rattle.ol_txn.specs.Seats.{table_of}
 use Rattle.ol_txn.proofs.SeatLaws.{is_met, least_first, least_found, least_from, least_none, least_passed, met_other, met_same}
 use Rattle.ol_txn.proofs.locks.Locks.holder.Goals as goal

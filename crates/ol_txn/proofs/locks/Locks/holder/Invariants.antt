@@ -1,5 +1,5 @@
 use Rattle.std.proofs.Common.{◌≡◌}
-use Rattle.ol_model.specs.Locks.{holder_of}
+use Rattle.ol_rules.specs.Locks.{holder_of}
 use Rattle.ol_txn.specs.Seats.{table_of}
 use Rattle.ol_txn.proofs.SeatLaws.{is_met, least_from}
 use Rattle.ol_txn.proofs.locks.Locks.holder.Given as goal

@@ -1,7 +1,7 @@
 use Rattle.std.proofs.Common.{List, ap, rules, tests, ◌||◌, ◌∙◌}
 use Rattle.std.proofs.lemmas.Iterator.{YieldsList-from_slice}
 use Rattle.std.proofs.lemmas.Iterator.Search.{any_from_yields_List}
-use Rattle.ol_model.specs.Locks.{is_locked, owns, shares}
+use Rattle.ol_rules.specs.Locks.{is_locked, owns, shares}
 use Rattle.ol_txn.specs.Seats.{Seat, table_of}
 use Rattle.ol_txn.proofs.SeatLaws.{locked_seats}
 use Rattle.ol_txn.proofs.locks.Locks.locked.Goals as goal

@@ -1,5 +1,5 @@
 use Rattle.std.proofs.Common.{drop, fold, ◌≡◌}
-use Rattle.ol_model.specs.Locks.{lesser, low_in}
+use Rattle.ol_rules.specs.Locks.{lesser, low_in}
 use Rattle.ol_txn.specs.Seats.{table_of}
 use Rattle.ol_txn.proofs.locks.Locks.low.Given as goal
 

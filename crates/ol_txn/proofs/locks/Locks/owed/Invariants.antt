@@ -1,5 +1,5 @@
 use Rattle.std.proofs.Common.{drop, ◌+◌, ◌≡◌, ◌≤◌, ◌^◌}
-use Rattle.ol_model.specs.Locks.{owed_in}
+use Rattle.ol_rules.specs.Locks.{owed_in}
 use Rattle.ol_txn.specs.Seats.{table_of}
 use Rattle.ol_txn.proofs.locks.Locks.owed.Given as goal
 

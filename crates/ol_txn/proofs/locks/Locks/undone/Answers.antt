@@ -1,5 +1,5 @@
 use Rattle.std.proofs.Common.{ap, arith}
-use Rattle.ol_model.specs.Locks.{owed_by_holding}
+use Rattle.ol_rules.specs.Locks.{owed_by_holding}
 use Rattle.ol_txn.specs.Seats.{Seat}
 use Rattle.ol_txn.proofs.SeatLaws.{owed_undone, sound_set}
 use Rattle.ol_txn.proofs.locks.Locks.undone.Goals as goal

@@ -1,0 +1,13 @@
+pub mod JournalLaws
+pub mod TxnLaws
+pub mod Found
+pub mod BackLaws
+pub mod SoundLaws
+pub mod AlikeLaws
+pub mod NeedLaws
+pub mod LockLaws
+pub mod TakenBack
+pub mod EffectLaws
+pub mod PageLaws
+pub mod ChainLaws
+pub mod SoundExamples

@@ -1,5 +1,0 @@
-use Rattle.ol_model.proofs.ChainLaws.{lay_is}
-use Rattle.ol_model.proofs.laws.chain_gives_last_cut.Goals as goal
-
-pub returns : goal.returns
-returns c = λ k journal space page levels chain lt. lay_is k journal space page levels chain lt

@@ -1,0 +1,16 @@
+pub mod Journal
+pub mod Transactions
+pub mod Effects
+pub mod Sound
+pub mod Locks
+pub mod Saveset
+pub mod Lasting
+pub mod Ring
+pub mod Start
+pub mod DiskValue
+pub mod Shelf
+pub mod Plan
+pub mod Restored
+pub mod Drawn
+pub mod Stands
+pub mod Scripts

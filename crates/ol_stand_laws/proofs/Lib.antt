@@ -1,0 +1,3 @@
+pub mod PageSlots
+pub mod StartLaws
+pub mod SoundPages

@@ -1,0 +1,5 @@
+pub mod ArchivesPlayed
+pub mod SessionsPlayed
+pub mod RestoresPlayed
+pub mod FurtherPlayed
+pub mod FaultsPlayed

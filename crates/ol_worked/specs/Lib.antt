@@ -1,0 +1,6 @@
+pub mod Small
+pub mod Archives
+pub mod Sessions
+pub mod Restores
+pub mod Further
+pub mod Faults
