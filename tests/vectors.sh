@@ -1,13 +1,14 @@
 #!/usr/bin/env bash
 # Gives each case of a table to the built program, and compares its first answer with the table's. The argument is a
 # folder with configurations.tsv and scripts.tsv: a line is the answer, a tab, and the bytes, of which some stand as
-# \xHH. A script of forms that are not built yet may be refused where the table says ok. Skipped without a folder.
+# \xHH. A script of forms that are not built yet may be refused where the table says ok. A second argument is a program
+# to run in place of the built one. Skipped without a folder.
 # `rt ci` does not run this.
 set -eu
 [ $# -ge 1 ] || { echo "skipped: no folder with cases is given"; exit 0; }
 cases=$(cd "$1" && pwd)
 cd "$(dirname "$0")/.."
-program=$PWD/crates/ol_files/out/ol_files
+program=${2:-$PWD/crates/ol_files/out/ol_files}
 [ -x "$program" ] || { echo "skipped: no built program"; exit 0; }
 
 work=$(mktemp -d)

@@ -1,0 +1,87 @@
+//! What a command left behind.
+
+use crate::trouble::Trouble;
+use ol_values::{Entry, History};
+use sha2::{Digest, Sha256};
+use std::alloc::{AllocError, Global};
+use std::fmt::Write;
+
+/// How many bytes of the digest of an output are told.
+const TOLD: usize = 8;
+
+/// What a command left behind: the bytes of its output, its exit status, its history, and the number of the calls of
+/// the disk that changed something and of the reads.
+#[derive(Drop)]
+pub struct Outcome {
+    output: Vec<u8>,
+    code: u8,
+    history: History,
+    writes: u64,
+    reads: u64,
+}
+
+impl Outcome {
+    /// What a command left behind, with a copy of its output.
+    pub fn new(
+        alloc: Global,
+        output: &[u8],
+        code: u8,
+        history: History,
+        writes: u64,
+        reads: u64,
+    ) -> Result<Outcome, Trouble> {
+        Ok(Outcome {
+            output: Vec::from_slice(alloc, output)?,
+            code,
+            history,
+            writes,
+            reads,
+        })
+    }
+
+    /// Whether all was done.
+    pub fn is_well(&self) -> bool {
+        self.code == 0
+    }
+
+    /// The turns of the command.
+    pub fn history(&self) -> &[Entry] {
+        self.history.as_slice()
+    }
+
+    /// Tells the output. Behind one that doesn't end in a line feed stand a tilde and a line feed.
+    ///
+    /// `NoWords` comes where it is no text.
+    pub fn tell(&self, told: &mut String) -> Result<(), Trouble> {
+        let Ok(text) = std::str::from_utf8(&self.output) else {
+            return Err(Trouble::NoWords);
+        };
+        told.push_str(text)?;
+        if !text.is_empty() && !text.ends_with("\n") {
+            told.push_str("~\n")?;
+        }
+        Ok(())
+    }
+
+    /// Tells the exit status.
+    pub fn tell_code(&self, told: &mut String) -> Result<(), AllocError> {
+        let code = self.code;
+        write!(told, "= {code}\n")
+    }
+
+    /// Tells the calls of the disk.
+    pub fn tell_calls(&self, told: &mut String) -> Result<(), AllocError> {
+        let (writes, reads) = (self.writes, self.reads);
+        write!(told, "writes and syncs {writes}, reads {reads}\n")
+    }
+
+    /// Tells the length of the output and the beginning of its digest.
+    pub fn tell_output(&self, told: &mut String) -> Result<(), AllocError> {
+        let length = self.output.len();
+        write!(told, "{length} bytes ")?;
+        for byte in Sha256::digest(self.output.as_slice()).iter().take(TOLD) {
+            write!(told, "{byte:02x}")?;
+        }
+        told.push_str("\n")
+    }
+}
