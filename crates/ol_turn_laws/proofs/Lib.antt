@@ -1,0 +1,13 @@
+pub mod OwedLaws
+pub mod RunLaws
+pub mod RingLaws
+pub mod RoomLaws
+pub mod SwitchLaws
+pub mod KeptLaws
+pub mod ValueLaws
+pub mod StepLaws
+pub mod LowLaws
+pub mod EvenLaws
+pub mod RoomyLaws
+pub mod SeatLaws
+pub mod WaitingLaws
