@@ -1,13 +1,12 @@
 -- Slots and stamps of pages that records are folded on.
-use Rattle.std.specs.List.{enumerate_from}
-use Rattle.std.specs.Prelude.{List, None, Option, [], if◌then◌else◌, length, refl, slice_index_or, replicate, ℕ, ◌++◌, ◌+◌, ◌<◌, ◌≡◌, ◌≤◌, ◌∷◌, true, false, Bool}
-use Rattle.std.proofs.Common.{ap, arith, subst, sym, ◌∙◌}
+use Rattle.std.specs.Prelude.{List, None, Option, [], if◌then◌else◌, length, slice_index_or, ℕ, ◌+◌, ◌<◌, ◌≡◌, ◌∷◌, true, false}
+use Rattle.std.proofs.Common.{ap, arith, ◌∙◌}
 use Rattle.std.proofs.lemmas.List.{get_or-replicate}
 use Rattle.std.proofs.lemmas.List.FromFn.{get_or-map-range_with_len}
 use Rattle.ol_values.specs.declared.record.Record.{Record}
 use Rattle.ol_values.specs.declared.row.Row.{Row}
 use Rattle.ol_values.specs.Pages.{Page, blank, rid_of}
-use Rattle.ol_rules.specs.Journal.{page_at, page_from, row_at, row_from, stamp_after, stamp_at, stamp_from, touches}
+use Rattle.ol_rules.specs.Journal.{page_at, page_from, row_at, row_from, stamp_after, stamp_from, touches}
 
 pub slot_folded : (base : Page) (first : ℕ) (records : List Record) (space page slot : ℕ) → slot < 31
     → slice_index_or (page_from base first records space page).slots slot None ≡ row_from (slice_index_or base.slots slot None) records (rid_of space page slot)

@@ -1,24 +1,23 @@
 -- Each place of a sound journal holds nothing or a row, and each page is one that a disk may hold.
-use Rattle.std.specs.Prelude.{All, Bool, IfSome, List, None, Option, Some, [], drop, false, if◌then◌else◌, length, refl, replicate, slice_get, slice_index_or, true, ℕ, ◌++◌, ◌+◌, ◌<◌, ◌==◌, ◌^◌, ◌≡◌, ◌≤◌, ◌∷◌}
-use Rattle.std.proofs.Common.{ap, arith, inl, inr, subst, sym, ◌∙◌}
+use Rattle.std.specs.Prelude.{All, IfSome, List, None, Option, Some, [], false, if◌then◌else◌, length, refl, slice_get, slice_index_or, true, ℕ, ◌++◌, ◌+◌, ◌<◌, ◌==◌, ◌^◌, ◌≡◌, ◌≤◌, ◌∷◌}
+use Rattle.std.proofs.Common.{arith, inl, inr, subst, sym, ◌∙◌}
 use Rattle.std.proofs.lemmas.Bool.{cases_Bool, leb-true}
-use Rattle.std.proofs.lemmas.List.{get_or-replicate}
-use Rattle.std.proofs.lemmas.List.Elements.{All-cons, All-drop, All-from_get_or, All-get_or, All-head, All-nil, All-tail}
+use Rattle.std.proofs.lemmas.List.Elements.{All-cons, All-drop, All-from_get_or, All-head, All-nil, All-tail}
 use Rattle.std.proofs.lemmas.List.FromFn.{length-map-range_with_len}
 use Rattle.ol_values.specs.declared.record.Record.{Record}
 use Rattle.ol_values.specs.declared.record.Record.TheVariants.{Begin as BeginRecord, Change, Commit as CommitRecord, Rolled, Undo}
 use Rattle.ol_values.specs.declared.record.Rid.{Rid}
 use Rattle.ol_values.specs.declared.row.Row.{Row}
 use Rattle.ol_values.specs.Config.{Config}
-use Rattle.ol_values.specs.Image.{IsDataPage, IsPage}
+use Rattle.ol_values.specs.Image.{IsDataPage}
 use Rattle.ol_values.specs.Pages.{Page, blank, rid_of}
 use Rattle.ol_rules.specs.Journal.{page_at, page_from, row_at, row_from, same_place, stamp_at}
-use Rattle.ol_rules.specs.Sound.{Before, HasRoom, IsNewChange, IsNewUndo, IsOne, Meets, Sound, after, afterwards, is_value, start}
-use Rattle.ol_rules.specs.Transactions.{Txn, begun, txn_numbered, with_change, with_undo}
+use Rattle.ol_rules.specs.Sound.{Before, HasRoom, IsNewUndo, IsOne, Meets, Sound, after, afterwards, is_value, start}
+use Rattle.ol_rules.specs.Transactions.{Txn, txn_numbered}
 use Rattle.ol_laws.proofs.Found.{some_is}
 use Rattle.ol_laws.proofs.PageLaws.{page_below}
 use Rattle.ol_laws.proofs.SoundLaws.{kept_by_all, last_after, rows_of}
-use Rattle.ol_laws.proofs.TxnLaws.{Gives, all_after}
+use Rattle.ol_laws.proofs.TxnLaws.{all_after}
 use Rattle.ol_stand_laws.proofs.PageSlots.{slot_of_journal, stamp_within}
 
 -- the values that a transaction's changes had before
@@ -92,7 +91,7 @@ fits_of : (o : Option Row) → is_value o ≡ true → IfSome o (λ row. length 
 fits_of None v = tt
 fits_of (Some row) v = leb-true (length row) 63 v
 
-slots_whole : (base : Page) (first : ℕ) (records : List Record) (space page : ℕ) → length (page_from base first records space page).slots ≡ 31
+pub slots_whole : (base : Page) (first : ℕ) (records : List Record) (space page : ℕ) → length (page_from base first records space page).slots ≡ 31
 unfolding page_from
 slots_whole base first records space page = length-map-range_with_len (λ k. row_from (slice_index_or base.slots k None) records (rid_of space page k)) 0 31
 

@@ -1,5 +1,5 @@
 -- What a start with records behind it gives, where it is a journal's.
-use Rattle.std.specs.Prelude.{Bool, List, None, Option, [], drop, length, refl, slice_index_or, take, true, ℕ, ◌++◌, ◌+◌, ◌-◌, ◌<◌, ◌≡◌, ◌≤◌}
+use Rattle.std.specs.Prelude.{Bool, List, None, Option, length, slice_index_or, take, true, ℕ, ◌++◌, ◌+◌, ◌-◌, ◌<◌, ◌≡◌, ◌≤◌}
 use Rattle.std.proofs.Common.{ap, append_assoc, arith, subst, sym, take-append-drop, ◌∙◌}
 use Rattle.std.proofs.lemmas.List.{length-append, length-take}
 use Rattle.std.proofs.lemmas.List.Sums.{fold-append}
@@ -7,11 +7,11 @@ use Rattle.ol_values.specs.declared.record.Record.{Record}
 use Rattle.ol_values.specs.declared.record.Rid.{Rid}
 use Rattle.ol_values.specs.declared.row.Row.{Row}
 use Rattle.ol_values.specs.Config.{Config, data_pages}
-use Rattle.ol_values.specs.Pages.{Page, blank, rid_of}
+use Rattle.ol_values.specs.Pages.{Page, blank}
 use Rattle.ol_rules.specs.Journal.{page_at, page_from, row_after, row_at, row_from, stamp_at, stamp_from}
 use Rattle.ol_rules.specs.Sound.{Sound}
-use Rattle.ol_rules.specs.Start.{IsStartOf, Start, last_behind, low_behind, page_behind, row_behind, stamp_behind, start_page, txns_behind}
-use Rattle.ol_rules.specs.Transactions.{Txn, low_at, low_of, open_at, txns_from}
+use Rattle.ol_rules.specs.Start.{IsStartOf, Start, last_behind, low_behind, page_behind, row_behind, stamp_behind, txns_behind}
+use Rattle.ol_rules.specs.Transactions.{Txn, low_at, low_of, open_at}
 use Rattle.ol_laws.proofs.NeedLaws.{open_from_need}
 use Rattle.ol_laws.proofs.PageLaws.{page_from-append, stamp_from-append}
 use Rattle.ol_stand_laws.proofs.PageSlots.{slot_of_journal}

@@ -2,15 +2,17 @@
 //! function with an empty body.
 #![tactic(auto)]
 
-ghost use Rattle.std.specs.Prelude.{◌≡◌, ◌≤◌, ◌<◌, ◌+◌, ◌-◌, ◌++◌, Bool, List, None, Option, length, slice_index_or, take, true, ℕ};
+ghost use Rattle.std.specs.Prelude.{◌≡◌, ◌≤◌, ◌<◌, ◌+◌, ◌-◌, ◌++◌, ◌∷◌, Bool, List, None, Option, [], false, length, slice_index_or, take, true, ℕ};
 ghost use Rattle.ol_values.specs.declared.record.Record.{Record};
+ghost use Rattle.ol_values.specs.declared.record.Record.TheVariants.{Change, Undo};
 ghost use Rattle.ol_values.specs.declared.record.Rid.{Rid};
+ghost use Rattle.ol_values.specs.declared.row.Row.{Row};
 ghost use Rattle.ol_values.specs.Config.{Config, data_pages};
-ghost use Rattle.ol_values.specs.Image.{IsDataPage};
+ghost use Rattle.ol_values.specs.Image.{IsDataPage, with_slot};
 ghost use Rattle.ol_values.specs.Pages.{Page, rid_of};
-ghost use Rattle.ol_rules.specs.Journal.{page_at, page_from, row_at, row_from, stamp_at, stamp_from};
-ghost use Rattle.ol_rules.specs.Sound.{Sound, is_value};
-ghost use Rattle.ol_rules.specs.Start.{IsStartOf, Start, last_behind, low_behind, page_behind, row_behind, stamp_behind, txns_behind};
+ghost use Rattle.ol_rules.specs.Journal.{page_at, page_from, row_at, row_from, stamp_at, stamp_from, touches};
+ghost use Rattle.ol_rules.specs.Sound.{AllChangesIn, Sound, is_value};
+ghost use Rattle.ol_rules.specs.Start.{IsStartOf, SoundBehind, Start, last_behind, low_behind, page_behind, row_behind, stamp_behind, txns_behind};
 ghost use Rattle.ol_rules.specs.Transactions.{low_at, open_at};
 
 /// A slot of a page that records are folded on is the row that they are folded on at that place; a stamp is at most the
@@ -39,4 +41,22 @@ pub fn start_gives_its_journal()
 pub fn pages_of_sound_journals_are_data_pages()
     ensures value { (c : Config) (journal : List Record) (place : Rid) → Sound c journal → is_value (row_at journal place) ≡ true }
     ensures page { (c : Config) (journal : List Record) (space page : ℕ) → Sound c journal → IsDataPage (page_at journal space page) }
+{}
+
+/// A Change or an Undo moves one slot of one page, from any page of 31 slots: it leaves its value there, and its position as
+/// the page's stamp; each other page stays as it was. The same of a page that records are folded on.
+pub fn records_move_one_page()
+    ensures change { (p : Page) (n txn : ℕ) (rid : Rid) (before after : Option Row) → length p.slots ≡ 31 → rid.slot < 31 → page_from p n (Change txn rid before after ∷ []) rid.space rid.page ≡ with_slot p rid.slot after n }
+    ensures undo { (p : Page) (n txn : ℕ) (rid : Rid) (value : Option Row) → length p.slots ≡ 31 → rid.slot < 31 → page_from p n (Undo txn rid value ∷ []) rid.space rid.page ≡ with_slot p rid.slot value n }
+    ensures other { (p : Page) (n : ℕ) (r : Record) (space page : ℕ) → length p.slots ≡ 31 → touches space page r ≡ false → page_from p n (r ∷ []) space page ≡ p }
+    ensures change_more { (base : Page) (first : ℕ) (records : List Record) (txn : ℕ) (rid : Rid) (before after : Option Row) → rid.slot < 31 → page_from base first (records ++ Change txn rid before after ∷ []) rid.space rid.page ≡ with_slot (page_from base first records rid.space rid.page) rid.slot after (first + length records) }
+    ensures undo_more { (base : Page) (first : ℕ) (records : List Record) (txn : ℕ) (rid : Rid) (value : Option Row) → rid.slot < 31 → page_from base first (records ++ Undo txn rid value ∷ []) rid.space rid.page ≡ with_slot (page_from base first records rid.space rid.page) rid.slot value (first + length records) }
+    ensures other_more { (base : Page) (first : ℕ) (records : List Record) (r : Record) (space page : ℕ) → touches space page r ≡ false → page_from base first (records ++ r ∷ []) space page ≡ page_from base first records space page }
+{}
+
+/// Records whose changes are in spaces that are up are sound behind a start that is a sound journal's exactly where they are
+/// sound behind the journal.
+pub fn sound_behind_its_start()
+    ensures journal { (c : Config) (up : ℕ → Bool) (journal records : List Record) (s : Start) → IsStartOf c up journal s → Sound c journal → AllChangesIn up records → SoundBehind c s records → Sound c (journal ++ records) }
+    ensures start { (c : Config) (up : ℕ → Bool) (journal records : List Record) (s : Start) → IsStartOf c up journal s → AllChangesIn up records → Sound c (journal ++ records) → SoundBehind c s records }
 {}
