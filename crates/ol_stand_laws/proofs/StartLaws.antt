@@ -1,5 +1,5 @@
 -- What a start with records behind it gives, where it is a journal's.
-use Rattle.std.specs.Prelude.{Bool, List, None, Option, length, slice_index_or, take, true, ℕ, ◌++◌, ◌+◌, ◌-◌, ◌<◌, ◌≡◌, ◌≤◌}
+use Rattle.std.specs.Prelude.{Bool, List, None, Option, drop, length, slice_index_or, take, true, ℕ, ◌++◌, ◌+◌, ◌-◌, ◌<◌, ◌≡◌, ◌≤◌}
 use Rattle.std.proofs.Common.{ap, append_assoc, arith, subst, sym, take-append-drop, ◌∙◌}
 use Rattle.std.proofs.lemmas.List.{length-append, length-take}
 use Rattle.std.proofs.lemmas.List.Sums.{fold-append}
@@ -10,11 +10,11 @@ use Rattle.ol_values.specs.Config.{Config, data_pages}
 use Rattle.ol_values.specs.Pages.{Page, blank}
 use Rattle.ol_rules.specs.Journal.{page_at, page_from, row_after, row_at, row_from, stamp_at, stamp_from}
 use Rattle.ol_rules.specs.Sound.{Sound}
-use Rattle.ol_rules.specs.Start.{IsStartOf, Start, last_behind, low_behind, page_behind, row_behind, stamp_behind, txns_behind}
+use Rattle.ol_rules.specs.Start.{IsStartOf, Start, last_behind, low_behind, page_behind, row_behind, stamp_behind, txns_behind, upto}
 use Rattle.ol_rules.specs.Transactions.{Txn, low_at, low_of, open_at}
 use Rattle.ol_laws.proofs.NeedLaws.{open_from_need}
-use Rattle.ol_laws.proofs.PageLaws.{page_from-append, stamp_from-append}
-use Rattle.ol_stand_laws.proofs.PageSlots.{slot_of_journal}
+use Rattle.ol_laws.proofs.PageLaws.{page_below, page_from-append, stamp_from-append}
+use Rattle.ol_stand_laws.proofs.PageSlots.{slot_of_journal, stamp_within}
 
 pub last_is : (c : Config) (up : ℕ → Bool) (journal records : List Record) (s : Start) → IsStartOf c up journal s → last_behind s records ≡ length (journal ++ records)
 last_is c up journal records s is = omega (arith, is.last, length-append journal records)
@@ -58,3 +58,22 @@ pub need_is : (c : Config) (up : ℕ → Bool) (journal records : List Record) (
 need_is c up journal records s is sound =
     ap (λ (l : List Txn). low_of l (last_behind s records)) (txns_are c up journal records s is sound)
     ∙ ap (λ (n : ℕ). low_of (open_at (journal ++ records)) n) (last_is c up journal records s is)
+
+-- a page whose stamp is at most a position is as it was there
+pub stays_below : (c : Config) (up : ℕ → Bool) (journal records : List Record) (s : Start) (position space page : ℕ) → IsStartOf c up journal s → up space ≡ true → page < data_pages c space
+    → s.last ≤ position → stamp_behind s records space page ≤ position → page_behind s records space page ≡ page_behind s (upto s records position) space page
+stays_below c up journal records s position space page is on there from within =
+    let first = upto s records position in
+    let rest = drop (position - s.last) records in
+    let join : (journal ++ first) ++ rest ≡ journal ++ records =
+    append_assoc journal first rest ∙ ap (λ (l : List Record). journal ++ l) (take-append-drop (position - s.last) records) in
+    let stamp : stamp_at ((journal ++ first) ++ rest) space page ≡ stamp_behind s records space page =
+    ap (λ (l : List Record). stamp_at l space page) join ∙ sym (stamps_are c up journal records s space page is on there) in
+    let most : stamp_at ((journal ++ first) ++ rest) space page < 1 + length ((journal ++ first) ++ rest) = stamp_within 0 1 ((journal ++ first) ++ rest) space page (omega arith) in
+    let whole : length ((journal ++ first) ++ rest) ≡ length journal + length records = ap (λ (l : List Record). length l) join ∙ length-append journal records in
+    let below : stamp_at ((journal ++ first) ++ rest) space page ≤ length (journal ++ first) =
+    omega (arith, stamp, most, whole, within, from, is.last, length-append journal first, length-take (position - s.last) records) in
+    pages_are c up journal records s space page is on there
+    ∙ ap (λ (l : List Record). page_at l space page) (sym join)
+    ∙ page_below (journal ++ first) rest space page below
+    ∙ sym (pages_are c up journal first s space page is on there)

@@ -12,7 +12,7 @@ ghost use Rattle.ol_values.specs.Image.{IsDataPage, with_slot};
 ghost use Rattle.ol_values.specs.Pages.{Page, rid_of};
 ghost use Rattle.ol_rules.specs.Journal.{page_at, page_from, row_at, row_from, stamp_at, stamp_from, touches};
 ghost use Rattle.ol_rules.specs.Sound.{AllChangesIn, Sound, is_value};
-ghost use Rattle.ol_rules.specs.Start.{IsStartOf, SoundBehind, Start, last_behind, low_behind, page_behind, row_behind, stamp_behind, txns_behind};
+ghost use Rattle.ol_rules.specs.Start.{IsStartOf, SoundBehind, Start, last_behind, low_behind, page_behind, row_behind, stamp_behind, txns_behind, upto};
 ghost use Rattle.ol_rules.specs.Transactions.{low_at, open_at};
 
 /// A slot of a page that records are folded on is the row that they are folded on at that place; a stamp is at most the
@@ -59,4 +59,11 @@ pub fn records_move_one_page()
 pub fn sound_behind_its_start()
     ensures journal { (c : Config) (up : ℕ → Bool) (journal records : List Record) (s : Start) → IsStartOf c up journal s → Sound c journal → AllChangesIn up records → SoundBehind c s records → Sound c (journal ++ records) }
     ensures start { (c : Config) (up : ℕ → Bool) (journal records : List Record) (s : Start) → IsStartOf c up journal s → AllChangesIn up records → Sound c (journal ++ records) → SoundBehind c s records }
+{}
+
+/// A page whose stamp is at most a position is as it was there. So the image that a change behind an archive's cut keeps of a
+/// page not changed since is the page at the cut.
+pub fn pages_stay_from_their_stamp_on()
+    ensures start { (c : Config) (up : ℕ → Bool) (journal records : List Record) (s : Start) (position space page : ℕ) → IsStartOf c up journal s → up space ≡ true → page < data_pages c space → s.last ≤ position → stamp_behind s records space page ≤ position → page_behind s records space page ≡ page_behind s (upto s records position) space page }
+    ensures journal { (journal more : List Record) (space page : ℕ) → stamp_at (journal ++ more) space page ≤ length journal → page_at (journal ++ more) space page ≡ page_at journal space page }
 {}
