@@ -11,3 +11,4 @@ pub mod EvenLaws
 pub mod RoomyLaws
 pub mod SeatLaws
 pub mod WaitingLaws
+pub mod CaptureLaws

@@ -2,7 +2,7 @@
 //! contract of a function with an empty body.
 #![tactic(auto)]
 
-ghost use Rattle.std.specs.Prelude.{All, ◌≡◌, ◌≢◌, ◌≤◌, ◌<◌, ◌+◌, ◌-◌, ◌^◌, ◌++◌, ◌∷◌, ◌⊎◌, List, None, Option, Some, drop, false, if◌then◌else◌, length, nat_lt, true, ℕ, []};
+ghost use Rattle.std.specs.Prelude.{All, ◌≡◌, ◌≢◌, ◌≤◌, ◌<◌, ◌+◌, ◌-◌, ◌^◌, ◌++◌, ◌∷◌, ◌⊎◌, ◌||◌, List, None, Option, Some, drop, false, filter, if◌then◌else◌, length, nat_lt, true, ℕ, []};
 ghost use Rattle.ol_values.specs.declared.event.Event.{Event};
 ghost use Rattle.ol_values.specs.declared.event.Reply.TheVariants.{PageIs};
 ghost use Rattle.ol_values.specs.declared.event.Why.{Why};
@@ -14,7 +14,7 @@ ghost use Rattle.ol_values.specs.declared.record.Rid.{Rid};
 ghost use Rattle.ol_values.specs.declared.row.Row.{Row};
 ghost use Rattle.ol_values.specs.Config.{Config, log_pages};
 ghost use Rattle.ol_values.specs.LogPages.{log_room, record_length};
-ghost use Rattle.ol_rules.specs.Journal.{row_after, row_at};
+ghost use Rattle.ol_rules.specs.Journal.{row_after, row_at, touches};
 ghost use Rattle.ol_rules.specs.Ring.{Reuse, Ring, Use, flushed, free, free_after_switch, logged, room, switched_off, use_numbered, written};
 ghost use Rattle.ol_rules.specs.Shelf.{Shelf};
 ghost use Rattle.ol_rules.specs.Sound.{HasRoom, Sound, is_value};
@@ -152,4 +152,13 @@ pub fn sessions_keep_their_seats()
     ensures turn { (shelf : Shelf) (g : Given) (m : Machine) (n k j : ℕ) (event : Event) → 1 ≤ k → 1 ≤ j → j ≢ k → seat_of (turn shelf g m n (Session k) event).1 j ≡ seat_of m j }
     ensures other { (m : Machine) (k j : ℕ) (s : Seat) → 1 ≤ k → 1 ≤ j → j ≢ k → seat_of (with_seat k s m) j ≡ seat_of m j }
     ensures own { (m : Machine) (k : ℕ) (s : Seat) → k - 1 < length m.work.sessions → seat_of (with_seat k s m) k ≡ s }
+{}
+
+/// A record leaves the pages of an archive that have not passed as they were, and adds the page that it changes to those
+/// whose images are kept, where that has not passed; so does a change of a row with all that comes before its record.
+pub fn changes_add_their_page()
+    ensures left { (r : Record) (m : Machine) (a : Archive) → a.cut ≤ last_of m → left_of (append r m) a ≡ left_of m a }
+    ensures waiting { (r : Record) (m : Machine) (a : Archive) → a.cut ≤ last_of m → waiting (append r m) a ≡ filter (λ (p : ℕ × ℕ). touches p.0 p.1 r || nat_lt a.cut (stamp_in m p.0 p.1)) (left_of m a) }
+    ensures change_left { (n : ℕ) (rid : Rid) (r : Record) (m : Machine) (a : Archive) → a.cut ≤ last_of m → left_of (change_row n rid r m) a ≡ left_of m a }
+    ensures change { (n : ℕ) (rid : Rid) (r : Record) (m : Machine) (a : Archive) → a.cut ≤ last_of m → waiting (change_row n rid r m) a ≡ filter (λ (p : ℕ × ℕ). touches p.0 p.1 r || nat_lt a.cut (stamp_in m p.0 p.1)) (left_of m a) }
 {}
