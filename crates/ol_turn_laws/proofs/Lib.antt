@@ -12,3 +12,4 @@ pub mod RoomyLaws
 pub mod SeatLaws
 pub mod WaitingLaws
 pub mod CaptureLaws
+pub mod ApartLaws

@@ -12,6 +12,7 @@ ghost use Rattle.ol_values.specs.declared.record.Record.{Record};
 ghost use Rattle.ol_values.specs.declared.record.Record.TheVariants.{Begin, Change, Commit, Rolled, Undo};
 ghost use Rattle.ol_values.specs.declared.record.Rid.{Rid};
 ghost use Rattle.ol_values.specs.declared.row.Row.{Row};
+ghost use Rattle.ol_values.specs.Blocks.{Saved};
 ghost use Rattle.ol_values.specs.Config.{Config, log_pages};
 ghost use Rattle.ol_values.specs.LogPages.{log_room, record_length};
 ghost use Rattle.ol_rules.specs.Journal.{row_after, row_at, touches};
@@ -22,7 +23,7 @@ ghost use Rattle.ol_rules.specs.Start.{before_behind};
 ghost use Rattle.ol_rules.specs.Transactions.{Ascending, BeginsFrom, Txn, open_at, owed, txn_numbered, txns_after};
 ghost use Rattle.ol_model.specs.ArchiveTurns.{cancel_at, end_at, start_at, take_at};
 ghost use Rattle.ol_model.specs.LogTurns.{can_switch, checkpoint_turn, clean_at, copy_at, done_at, pick_at, switch_turn, uncopied_at};
-ghost use Rattle.ol_model.specs.Machine.{Archive, Machine, Picking, Seat, archive_of, config_of, formatted, journal_full, last_of, logs_full, low_in, owed_in, reuse_of, row_in, seat_of, stamp_in, txns_in, with_archive, with_seat};
+ghost use Rattle.ol_model.specs.Machine.{Archive, Machine, Picking, Seat, archive_of, archiver_of, config_of, formatted, journal_full, last_of, logs_full, low_in, owed_in, reuse_of, row_in, seat_of, stamp_in, txns_in, with_archive, with_seat};
 ghost use Rattle.ol_model.specs.Steps.{append, change_row};
 ghost use Rattle.ol_model.specs.Turns.{Given, turn};
 ghost use Rattle.ol_model.specs.Waiting.{images_held, left_of, waiting, waiting_of};
@@ -161,4 +162,9 @@ pub fn changes_add_their_page()
     ensures waiting { (r : Record) (m : Machine) (a : Archive) → a.cut ≤ last_of m → waiting (append r m) a ≡ filter (λ (p : ℕ × ℕ). touches p.0 p.1 r || nat_lt a.cut (stamp_in m p.0 p.1)) (left_of m a) }
     ensures change_left { (n : ℕ) (rid : Rid) (r : Record) (m : Machine) (a : Archive) → a.cut ≤ last_of m → left_of (change_row n rid r m) a ≡ left_of m a }
     ensures change { (n : ℕ) (rid : Rid) (r : Record) (m : Machine) (a : Archive) → a.cut ≤ last_of m → waiting (change_row n rid r m) a ≡ filter (λ (p : ℕ × ℕ). touches p.0 p.1 r || nat_lt a.cut (stamp_in m p.0 p.1)) (left_of m a) }
+{}
+
+/// An archive starts with spaces that no running archive has.
+pub fn archives_start_apart()
+    ensures { (m : Machine) (k level : ℕ) (names : List (List ℕ)) (b : Archive) → k - 1 < length m.archives → archive_of m k ≡ None → archive_of (start_at m k level names None).1 k ≡ Some b → All (λ (v : Saved). archiver_of m v.space ≡ None) b.spaces }
 {}
