@@ -10,7 +10,7 @@ use std::marker::Model;
 
 /// The name of a space: a small letter, and then at most 7 small letters or digits. Contracts
 /// see it as the list of its bytes.
-#[derive(Debug, PartialEq, Eq, Drop)]
+#[derive(Clone, Copy, Debug, PartialEq, Eq)]
 pub struct Name {
     label: Label,
 }
@@ -46,15 +46,6 @@ impl Name {
         ensures name { is_name_bytes self.now ≡ true }
     {
         self.label.as_slice()
-    }
-
-    /// The same name again.
-    pub fn copy(&self) -> Name
-        ensures { result ≡ self.now }
-    {
-        Name {
-            label: self.label.copy(),
-        }
     }
 }
 

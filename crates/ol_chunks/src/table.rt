@@ -85,7 +85,7 @@ impl ChunkTable {
         requires { space < length self.now.spaces }
         ensures { result ≡ (space_at self.now space).name }
     {
-        self.layout.spaces[usize::from(space)].name().copy()
+        *self.layout.spaces[usize::from(space)].name()
     }
 
     /// The space of a name; None where no space has it.

@@ -71,11 +71,11 @@ takes_end {c} {j} {txn} {pages} {next} {arch} {h} {h'} {old} {by} regs a some k 
 
 -- ---- an insert
 
--- the entry tells copies of the name and of the row
-told_copies : (h h' : List Entry) (by : By) (reply : Reply) {name name' : List ℕ} {row row' : Row} (reg : ℕ) → name' ≡ name → row' ≡ row → h' ≡ h ++ entry_of (length h + 1) by (InsertTurn reg name' row') reply ∷ []
+-- the entry tells a copy of the row
+told_copy : (h h' : List Entry) (by : By) (reply : Reply) (name : List ℕ) {row row' : Row} (reg : ℕ) → row' ≡ row → h' ≡ h ++ entry_of (length h + 1) by (InsertTurn reg name row') reply ∷ []
     → h' ≡ h ++ entry_of (length h + 1) by (InsertTurn reg name row) reply ∷ []
-told_copies h h' by reply {name = name} {row' = row'} reg p q told =
-    told ∙ ap (λ (x : List ℕ). h ++ entry_of (length h + 1) by (InsertTurn reg x row') reply ∷ []) p ∙ ap (λ (x : Row). h ++ entry_of (length h + 1) by (InsertTurn reg name x) reply ∷ []) q
+told_copy h h' by reply name reg q told =
+    told ∙ ap (λ (x : Row). h ++ entry_of (length h + 1) by (InsertTurn reg name x) reply ∷ []) q
 
 -- what an insert answers, where the session is in a transaction
 insert_found : (c : Config) (j : List Record) {txn : Option ℕ} (next : ℕ) (arch : Option Running) (regs : List (Option Rid)) (n reg : ℕ) (name : List ℕ) (row : Row) (found : Option ℕ) → txn ≡ Some n → space_named c name ≡ found
@@ -84,33 +84,33 @@ insert_found c j {txn} next arch regs n reg name row found some is =
     subst (λ (x : Option ℕ). insert_turn (machine_in c j x regs next arch) 1 reg name row ≡ insert_into (machine_in c j x regs next arch) 1 n reg row found) (sym some)
     (ap (insert_into (machine_in c j (Some n) regs next arch) 1 n reg row) is)
 
-pub takes_no_space : {c : Config} {j : List Record} {txn : Option ℕ} {pages : List Filled} {next : ℕ} {arch : Option Running} {h h' : List Entry} {old : Seen} {by : By} {name name' : List ℕ} {row row' : Row} (regs : List (Option Rid)) (n reg : ℕ)
-    → IsKept c j txn pages next arch h → seen (machine_in c j txn regs next arch) h ≡ old → by.actor ≡ Session 1 → txn ≡ Some n → space_named c name ≡ None → name' ≡ name → row' ≡ row
-    → h' ≡ h ++ entry_of (length h + 1) by (InsertTurn reg name' row') NoSpace ∷ [] → Takes old by (InsertTurn reg name row) NoSpace (seen (machine_in c j txn regs next arch) h')
-takes_no_space {c = c} {j = j} {next = next} {arch = arch} {name = name} {row = row} regs n reg k is who some none p q told =
-    takes_as (Session 1) is who (insert_found c j next arch regs n reg name row None some none) (told_copies _ _ _ _ reg p q told)
+pub takes_no_space : {c : Config} {j : List Record} {txn : Option ℕ} {pages : List Filled} {next : ℕ} {arch : Option Running} {h h' : List Entry} {old : Seen} {by : By} {name : List ℕ} {row row' : Row} (regs : List (Option Rid)) (n reg : ℕ)
+    → IsKept c j txn pages next arch h → seen (machine_in c j txn regs next arch) h ≡ old → by.actor ≡ Session 1 → txn ≡ Some n → space_named c name ≡ None → row' ≡ row
+    → h' ≡ h ++ entry_of (length h + 1) by (InsertTurn reg name row') NoSpace ∷ [] → Takes old by (InsertTurn reg name row) NoSpace (seen (machine_in c j txn regs next arch) h')
+takes_no_space {c = c} {j = j} {next = next} {arch = arch} {name = name} {row = row} regs n reg k is who some none q told =
+    takes_as (Session 1) is who (insert_found c j next arch regs n reg name row None some none) (told_copy _ _ _ _ _ reg q told)
 
-pub takes_no_room : {c : Config} {j : List Record} {txn : Option ℕ} {pages : List Filled} {next : ℕ} {arch : Option Running} {h h' : List Entry} {old : Seen} {by : By} {name name' : List ℕ} {row row' : Row} (regs : List (Option Rid)) (n reg space : ℕ)
-    → IsKept c j txn pages next arch h → seen (machine_in c j txn regs next arch) h ≡ old → by.actor ≡ Session 1 → txn ≡ Some n → space_named c name ≡ Some space → data_pages c space * 31 ≤ (filled_at pages space).rows → name' ≡ name → row' ≡ row
-    → h' ≡ h ++ entry_of (length h + 1) by (InsertTurn reg name' row') (SpaceFull space) ∷ [] → Takes old by (InsertTurn reg name row) (SpaceFull space) (seen (machine_in c j txn regs next arch) h')
-takes_no_room {c} {j} {txn} {pages} {next} {arch} {name = name} {row = row} regs n reg space k is who some found full p q told =
+pub takes_no_room : {c : Config} {j : List Record} {txn : Option ℕ} {pages : List Filled} {next : ℕ} {arch : Option Running} {h h' : List Entry} {old : Seen} {by : By} {name : List ℕ} {row row' : Row} (regs : List (Option Rid)) (n reg space : ℕ)
+    → IsKept c j txn pages next arch h → seen (machine_in c j txn regs next arch) h ≡ old → by.actor ≡ Session 1 → txn ≡ Some n → space_named c name ≡ Some space → data_pages c space * 31 ≤ (filled_at pages space).rows → row' ≡ row
+    → h' ≡ h ++ entry_of (length h + 1) by (InsertTurn reg name row') (SpaceFull space) ∷ [] → Takes old by (InsertTurn reg name row) (SpaceFull space) (seen (machine_in c j txn regs next arch) h')
+takes_no_room {c} {j} {txn} {pages} {next} {arch} {name = name} {row = row} regs n reg space k is who some found full q told =
     let m = machine_in c j txn regs next arch in
     takes_as (Session 1) is who
     (insert_found c j next arch regs n reg name row (Some space) some found ∙ ap (insert_at m 1 n reg row space) (no_slot c j space (filled_at pages space).rows (k.filled space).slots full))
-    (told_copies _ _ _ _ reg p q told)
+    (told_copy _ _ _ _ _ reg q told)
 
-pub takes_insert : {c : Config} {j j' : List Record} {txn : Option ℕ} {pages : List Filled} {next : ℕ} {arch : Option Running} {h h' : List Entry} {old : Seen} {by : By} {rid : Rid} {name name' : List ℕ} {row row' : Row} (regs : List (Option Rid)) (n reg space rows : ℕ)
+pub takes_insert : {c : Config} {j j' : List Record} {txn : Option ℕ} {pages : List Filled} {next : ℕ} {arch : Option Running} {h h' : List Entry} {old : Seen} {by : By} {rid : Rid} {name : List ℕ} {row row' : Row} (regs : List (Option Rid)) (n reg space rows : ℕ)
     → IsKept c j txn pages next arch h → seen (machine_in c j txn regs next arch) h ≡ old → by.actor ≡ Session 1 → txn ≡ Some n → space_named c name ≡ Some space
-    → rows ≡ (filled_at pages space).rows → rows < data_pages c space * 31 → name' ≡ name → row' ≡ row → rid ≡ slot_at space rows → j' ≡ j ++ row_in n space rows row ∷ []
-    → h' ≡ h ++ entry_of (length h + 1) by (InsertTurn reg name' row') (At rid) ∷ [] → Takes old by (InsertTurn reg name row) (At rid) (seen (machine_in c j' txn (slice_set regs reg (Some rid)) next arch) h')
-takes_insert {c} {j} {j'} {txn} {pages} {next} {arch} {rid = rid} {name = name} {row = row} regs n reg space rows k is who some found count lt p q place jis told =
+    → rows ≡ (filled_at pages space).rows → rows < data_pages c space * 31 → row' ≡ row → rid ≡ slot_at space rows → j' ≡ j ++ row_in n space rows row ∷ []
+    → h' ≡ h ++ entry_of (length h + 1) by (InsertTurn reg name row') (At rid) ∷ [] → Takes old by (InsertTurn reg name row) (At rid) (seen (machine_in c j' txn (slice_set regs reg (Some rid)) next arch) h')
+takes_insert {c} {j} {j'} {txn} {pages} {next} {arch} {rid = rid} {name = name} {row = row} regs n reg space rows k is who some found count lt q place jis told =
     let m = machine_in c j txn regs next arch in
     let row_put : List Record → Rid → Reply × Machine = λ x r. (At r, machine_in c x txn (slice_set regs reg (Some r)) next arch) in
     let slots = subst (λ (x : ℕ). (i : ℕ) → is_none (row_at j (slot_at space i)) ≡ nat_le x i) (sym count) (k.filled space).slots in
     takes_as (Session 1) is who
     (insert_found c j next arch regs n reg name row (Some space) some found ∙ ap (insert_at m 1 n reg row space) (free_slot c j space rows slots lt)
     ∙ ap (row_put (j ++ row_in n space rows row ∷ [])) (sym place) ∙ ap (λ (x : List Record). row_put x rid) (sym jis))
-    (told_copies _ _ _ _ reg p q told)
+    (told_copy _ _ _ _ _ reg q told)
 
 -- ---- the start of an archive
 

@@ -1,7 +1,6 @@
 -- Histories: the states along them, the lines that they carry out, and the records that they append.
-use Rattle.std.specs.Prelude.{Bool, List, None, Option, Some, [], drop, filter, fold, map, true, ℕ, ◌+◌, ◌<◌, ◌==◌, ◌∷◌, ◌≡◌, false}
+use Rattle.std.specs.Prelude.{Bool, List, None, Option, Some, [], drop, filter, fold, map, true, ℕ, ◌+◌, ◌∷◌, ◌≡◌}
 use Rattle.ol_values.specs.declared.history.Actor.{Actor}
-use Rattle.ol_values.specs.declared.history.Actor.TheVariants.{Archiver, Backer, Checkpointer, Flusher, Session, Warmer}
 use Rattle.ol_values.specs.declared.history.Entry.{Entry}
 use Rattle.ol_values.specs.declared.line.Line.{Line}
 use Rattle.ol_values.specs.declared.record.Record.{Record}

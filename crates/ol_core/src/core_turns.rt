@@ -150,7 +150,7 @@ impl Core {
     {
         let event = Event::Insert {
             reg,
-            space: space.copy(),
+            space: *space,
             row: row.copy(),
         };
         let Some(txn) = self.txn else {
@@ -210,7 +210,7 @@ impl Core {
     {
         let event = Event::ArchiveStart {
             level: 0,
-            spaces: spaces.copy(),
+            spaces: *spaces,
         };
         if self.archive.is_some() {
             let reply = Reply::Archiving { archiver: 1 };

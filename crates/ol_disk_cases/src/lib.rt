@@ -4,8 +4,6 @@
 #![tactic(auto)]
 
 #[cfg(test)]
-mod configs;
-#[cfg(test)]
 mod disks;
 #[cfg(test)]
 mod pairs;

@@ -31,7 +31,7 @@ fn put<T: Drive>(rt: &impl Abort, drive: &mut T, byte: u8)
 {
     match drive.write(&[byte; BLOCK_LENGTH]) {
         Wrote::Done => {}
-        Wrote::EndOfVolume | Wrote::Failed => panic!(rt; "block {byte} was not written"),
+        Wrote::EndOfVolume | Wrote::Failed => panic!(rt; "a block was not written"),
     }
 }
 
@@ -46,15 +46,22 @@ fn put_in_vain<T: Drive>(rt: &impl Abort, drive: &mut T)
     }
 }
 
+/// Fills a volume with a block of ones and one of twos, and begins one with a block of threes.
+fn fill<T: Drive>(rt: &impl Abort, drive: &mut T)
+    requires { (T.tape drive.old).room ≡ 0 }
+{
+    mount(rt, drive);
+    put(rt, drive, 1);
+    put(rt, drive, 2);
+    put_in_vain(rt, drive);
+    mount(rt, drive);
+    put(rt, drive, 3);
+}
+
 /// Two volumes: one with a block of ones and one of twos, one with a block of threes.
 fn two_volumes(rt: &(impl Abort + AllocGlobal)) -> Result<Volumes, Fail> {
     let mut drive = MemoryDrive::new(rt.alloc(), 2, 2, &[])?;
-    mount(rt, &mut drive);
-    put(rt, &mut drive, 1);
-    put(rt, &mut drive, 2);
-    put_in_vain(rt, &mut drive);
-    mount(rt, &mut drive);
-    put(rt, &mut drive, 3);
+    fill(rt, &mut drive);
     Ok(drive.take())
 }
 
@@ -66,29 +73,29 @@ fn empty(alloc: Global, failing: &[u64]) -> Result<MemoryShelf, Fail>
 }
 
 /// Puts volumes on a shelf that has none.
-fn add(shelf: &mut MemoryShelf, volumes: Volumes) -> Result<(), Fail>
+fn add(shelf: &mut MemoryShelf, volumes: Volumes) -> bool
     requires { length (volumes_at shelf.old.tapes 3) ≡ 0 }
 {
-    if volumes.len() > 2 {
-        return Err("there are more volumes".into());
-    }
-    Ok(shelf.add(DRIVE, volumes)?)
+    volumes.len() <= 2 && shelf.add(DRIVE, volumes).is_ok()
 }
 
 /// A shelf of two volumes.
 fn shelved(rt: &(impl Abort + AllocGlobal), failing: &[u64]) -> Result<MemoryShelf, Fail> {
     let volumes = two_volumes(rt)?;
     let mut shelf = empty(rt.alloc(), failing)?;
-    add(&mut shelf, volumes)?;
+    assert!(rt; add(&mut shelf, volumes));
     Ok(shelf)
 }
 
-/// The number of volumes of a drive.
-fn count<F: Shelf>(shelf: &mut F, drive: u8) -> Result<u32, Failed> {
+/// Whether a drive has so many volumes.
+fn counts<F: Shelf>(shelf: &mut F, drive: u8, volumes: u32) -> bool {
     if drive >= DRIVES {
-        return Err(Failed);
+        return false;
     }
-    shelf.volumes(drive)
+    match shelf.volumes(drive) {
+        Ok(count) => count == volumes,
+        Err(_) => false,
+    }
 }
 
 /// Whether a block is there, by a call for the volumes and one for the blocks.
@@ -103,70 +110,70 @@ fn has_block<F: Shelf>(shelf: &mut F, volume: u32, block: u32) -> Result<bool, F
     Ok(block < blocks)
 }
 
-/// Reads a block, by three calls.
-fn block_of<F: Shelf>(
+/// Reads a block, by three calls. The bytes stay where it is not there.
+fn read<F: Shelf>(
     shelf: &mut F,
     volume: u32,
     block: u32,
-) -> Result<[u8; BLOCK_LENGTH], Failed> {
+    bytes: &mut [u8; BLOCK_LENGTH],
+) -> Result<(), Failed> {
+    if !has_block(shelf, volume, block)? {
+        return Ok(());
+    }
+    shelf.read(DRIVE, volume, block, bytes)
+}
+
+/// Whether a block is read, and holds this byte alone, but for the last one, which is given too.
+fn holds<F: Shelf>(shelf: &mut F, volume: u32, block: u32, byte: u8, last: u8) -> bool {
+    let mut wanted = [byte; BLOCK_LENGTH];
+    wanted[BLOCK_LENGTH - 1] = last;
     let mut bytes = [0x33; BLOCK_LENGTH];
-    if !has_block(shelf, volume, block)? {
-        return Ok(bytes);
-    }
-    shelf.read(DRIVE, volume, block, &mut bytes)?;
-    Ok(bytes)
+    read(shelf, volume, block, &mut bytes).is_ok() && bytes == wanted
 }
 
-/// Turns a byte of a block.
-fn turn(shelf: &mut MemoryShelf, volume: u32, block: u32, byte: u16) -> Result<(), Failed> {
-    if byte >= 2144 {
-        return Err(Failed);
-    }
-    if !has_block(shelf, volume, block)? {
-        return Err(Failed);
-    }
-    shelf.flip(DRIVE, volume, block, byte);
-    Ok(())
+/// Whether a block can't be read, and the shelf has so many faults then.
+fn fails<F: Shelf>(shelf: &mut F, faults: u64) -> bool {
+    let mut bytes = [0; BLOCK_LENGTH];
+    read(shelf, 1, 0, &mut bytes).is_err() && shelf.faults() == faults
 }
 
-/// Requires that a block holds this byte alone.
-fn require_block(rt: &impl Abort, shelf: &mut MemoryShelf, volume: u32, block: u32, byte: u8) {
-    assert_eq!(rt;
-        block_of(shelf, volume, block),
-        Ok([byte; BLOCK_LENGTH]),
-        "at block {block} of volume {volume}"
-    );
+/// The faults of a shelf.
+fn faults<F: Shelf>(shelf: &F) -> u64 {
+    shelf.faults()
 }
 
-#[test]
-fn shelf_counts_its_volumes(rt: HostRuntime) -> Result<(), Fail> {
-    let mut shelf = shelved(&rt, &[])?;
-    for (drive, volumes) in [(0, 0), (3, 2), (4, 0)] {
-        assert_eq!(rt; count(&mut shelf, drive), Ok(volumes), "at drive {drive}");
+/// Turns a byte of a block, where it is there.
+fn turn(shelf: &mut MemoryShelf, volume: u32, block: u32, byte: u16) -> bool {
+    match has_block(shelf, volume, block) {
+        Ok(true) if byte < 2144 => {
+            shelf.flip(DRIVE, volume, block, byte);
+            true
+        }
+        _ => false,
     }
-    Ok(())
 }
 
 #[test]
 fn shelf_gives_the_blocks_of_its_volumes(rt: HostRuntime) -> Result<(), Fail> {
     let mut shelf = shelved(&rt, &[])?;
+    for (drive, volumes) in [(0, 0), (3, 2), (4, 0)] {
+        assert!(rt; counts(&mut shelf, drive, volumes), "at drive {drive}");
+    }
     // the last two are not there
     for (volume, block, byte) in [(1, 0, 1), (1, 1, 2), (2, 0, 3), (1, 2, 0x33), (3, 0, 0x33)] {
-        require_block(&rt, &mut shelf, volume, block, byte);
+        assert!(rt;
+            holds(&mut shelf, volume, block, byte, byte),
+            "at block {block} of volume {volume}"
+        );
     }
-    assert_eq!(rt; shelf.faults(), 0);
-    Ok(())
-}
-
-#[test]
-fn turned_byte_is_read(rt: HostRuntime) -> Result<(), Fail> {
-    let mut shelf = shelved(&rt, &[])?;
-    assert_eq!(rt; turn(&mut shelf, 1, 1, 2143), Ok(()));
-    let mut turned = [2; BLOCK_LENGTH];
-    turned[2143] = 0xfd;
-    assert_eq!(rt; block_of(&mut shelf, 1, 1), Ok(turned));
-    require_block(&rt, &mut shelf, 1, 0, 1);
-    require_block(&rt, &mut shelf, 2, 0, 3);
+    assert_eq!(rt; faults(&shelf), 0);
+    assert!(rt; turn(&mut shelf, 1, 1, 2143));
+    for (volume, block, byte, last) in [(1, 1, 2, 0xfd), (1, 0, 1, 1), (2, 0, 3, 3)] {
+        assert!(rt;
+            holds(&mut shelf, volume, block, byte, last),
+            "at block {block} of volume {volume}, behind the turn"
+        );
+    }
     Ok(())
 }
 
@@ -175,14 +182,9 @@ fn shelf_fails_where_it_is_told(rt: HostRuntime) -> Result<(), Fail> {
     // three calls for a block: the count of volumes, that of blocks, and the reading
     let mut shelf = shelved(&rt, &[1, 3, 6])?;
     for faults in 1..=3 {
-        assert_eq!(rt;
-            block_of(&mut shelf, 1, 0),
-            Err(Failed),
-            "at fault {faults}"
-        );
-        assert_eq!(rt; shelf.faults(), faults);
+        assert!(rt; fails(&mut shelf, faults), "at fault {faults}");
     }
-    require_block(&rt, &mut shelf, 1, 0, 1);
-    assert_eq!(rt; shelf.faults(), 3);
+    assert!(rt; holds(&mut shelf, 1, 0, 1, 1));
+    assert_eq!(rt; faults(&shelf), 3);
     Ok(())
 }

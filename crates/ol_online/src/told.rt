@@ -14,7 +14,7 @@ use ol_values::History;
 use std::alloc::Global;
 
 /// What a command has to tell besides its status.
-#[derive(Debug, Drop)]
+#[derive(Drop)]
 pub(crate) enum Told {
     /// No work was begun.
     Nothing,

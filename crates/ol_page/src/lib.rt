@@ -42,7 +42,8 @@ pub struct BadPage;
 pub fn set_slot(page: &mut [u8], slot: u8, row: Option<Row>, stamp: u64)
     requires whole { length page.old ≡ 2048 }
     requires there { slot < 31 }
-    ensures { (p : Page) → IsPage p → page.old ≡ page_bytes p → page.new ≡ page_bytes (with_slot p slot row stamp) }
+    ensures page { (p : Page) → IsPage p → page.old ≡ page_bytes p → page.new ≡ page_bytes (with_slot p slot row stamp) }
+    ensures fits { IfSome row (λ r. length r ≤ 63) }
 {
     let image = slot_image(row);
     put(page, 0, &stamp.to_be_bytes());

@@ -10,7 +10,7 @@ use Rattle.ol_values.specs.declared.record.Record.TheVariants.{Begin, Change, Co
 use Rattle.ol_values.specs.declared.row.Row.{Row}
 use Rattle.ol_values.specs.LogPages.{LogPage}
 use Rattle.ol_record.specs.LogPages.{IsFilling, page_in, touches_page}
-use Rattle.ol_record.specs.Spelling.{IsRecord, IsValue, KeepsRules, place_bytes, record_bytes, records_bytes, value_bytes}
+use Rattle.ol_values.specs.Spelling.{IsRecord, IsValue, KeepsRules, place_bytes, record_bytes, records_bytes, value_bytes}
 use Rattle.ol_record.specs.Reading.{record_at, records_in}
 use Rattle.ol_record.proofs.Filled.{pair_at}
 

@@ -2,7 +2,7 @@
 use Rattle.std.proofs.Common.{◌≡◌, ℕ, ◌+◌, ◌-◌, ◌≤◌, List, ◌++◌, length, take, Option, Some, None, refl, sym, ap, ◌∙◌, arith}
 use Rattle.std.proofs.lemmas.List.{take_at, length-append}
 use Rattle.ol_values.specs.declared.record.Record.{Record}
-use Rattle.ol_record.specs.Spelling.{IsRecord, record_bytes}
+use Rattle.ol_values.specs.Spelling.{IsRecord, record_bytes}
 use Rattle.ol_record.specs.Reading.{record_at}
 use Rattle.ol_record.proofs.Fields.{IsBytes, some_is}
 use Rattle.ol_record.proofs.Spellings.{record_takes, record_again}

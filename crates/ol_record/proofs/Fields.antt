@@ -6,7 +6,7 @@ use Rattle.std.proofs.lemmas.List.{take_at, drop_at, take-append-drop, length-ap
 use Rattle.std.proofs.lemmas.Nat.{be_bytes_2, be_bytes_4, be_bytes_8, from_be_bytes-to_be_bytes_2, from_be_bytes-to_be_bytes_4, from_be_bytes-to_be_bytes_8}
 use Rattle.ol_values.specs.declared.record.Rid.{Rid}
 use Rattle.ol_values.specs.declared.row.Row.{Row}
-use Rattle.ol_record.specs.Spelling.{IsPlace, IsValue, place_bytes, value_bytes}
+use Rattle.ol_values.specs.Spelling.{IsPlace, IsValue, place_bytes, value_bytes}
 use Rattle.ol_bytes.specs.Reading.{◌>>=◌}
 use Rattle.ol_record.specs.Reading.{number_at, place_at, row_at, value_at}
 

@@ -9,7 +9,7 @@ use Rattle.ol_values.specs.declared.record.Record.{Record}
 use Rattle.ol_values.specs.LogPages.{LogPage}
 use Rattle.ol_record.specs.LogPages.{IsBuffer, IsFilling, IsImage, blank_page, fixed_bytes, log_page_bytes, padding, page_in, tally_bytes, with_record}
 use Rattle.ol_bytes.specs.Overwriting.{overwritten}
-use Rattle.ol_record.specs.Spelling.{IsRecord, record_bytes, records_bytes}
+use Rattle.ol_values.specs.Spelling.{IsRecord, record_bytes, records_bytes}
 use Rattle.ol_record.proofs.Fields.{wide16}
 use Rattle.ol_record.proofs.Pages.{gate_back, page_in_back}
 use Rattle.ol_record.proofs.Several.{few_in}

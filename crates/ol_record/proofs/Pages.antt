@@ -5,7 +5,7 @@ use Rattle.std.specs.Int.{w16, w32, w64, from_be_bytes}
 use Rattle.ol_values.specs.declared.record.Record.{Record}
 use Rattle.ol_values.specs.LogPages.{LogPage}
 use Rattle.ol_record.specs.LogPages.{IsFilling, IsLogPage, fixed_bytes, log_page_bytes, padding, page_in, tally_bytes}
-use Rattle.ol_record.specs.Spelling.{records_bytes}
+use Rattle.ol_values.specs.Spelling.{records_bytes}
 use Rattle.ol_record.specs.Reading.{records_in}
 use Rattle.ol_record.proofs.Fields.{wide16, wide32, wide64}
 use Rattle.ol_record.proofs.Several.{few_in, records_again}

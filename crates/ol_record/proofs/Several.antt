@@ -7,7 +7,7 @@ use Rattle.std.proofs.lemmas.List.{length-append, nil_from_length}
 use Rattle.std.proofs.lemmas.List.Concat.{flat_map-cons}
 use Rattle.ol_values.specs.declared.record.Record.{Record}
 use Rattle.ol_values.specs.declared.record.Record.TheVariants.{Begin, Change, Commit, Rolled, Undo}
-use Rattle.ol_record.specs.Spelling.{IsRecord, place_bytes, record_bytes, records_bytes, value_bytes}
+use Rattle.ol_values.specs.Spelling.{IsRecord, place_bytes, record_bytes, records_bytes, value_bytes}
 use Rattle.ol_record.specs.Reading.{record_at, records_behind, records_in, whole_behind, whole_in}
 use Rattle.ol_record.proofs.Fields.{IsBytes}
 use Rattle.ol_record.proofs.Spellings.{record_again, record_takes}

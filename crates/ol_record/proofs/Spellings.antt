@@ -8,7 +8,7 @@ use Rattle.ol_values.specs.declared.record.Record.{Record}
 use Rattle.ol_values.specs.declared.record.Record.TheVariants.{Begin, Change, Commit, Rolled, Undo}
 use Rattle.ol_values.specs.declared.record.Rid.{Rid}
 use Rattle.ol_values.specs.declared.row.Row.{Row}
-use Rattle.ol_record.specs.Spelling.{IsRecord, place_bytes, record_bytes, value_bytes}
+use Rattle.ol_values.specs.Spelling.{IsRecord, place_bytes, record_bytes, value_bytes}
 use Rattle.ol_bytes.specs.Reading.{◌>>=◌}
 use Rattle.ol_record.specs.Reading.{change_at, kind_at, number_at, place_at, record_at, undo_at, value_at}
 use Rattle.ol_record.proofs.Fields.{IsBytes, IsBytes-rest, Takes, Takes-then, bind_some, chosen, guard_true, number_again, number_takes, place_again, place_takes, some_is, value_again, value_takes, wide64}

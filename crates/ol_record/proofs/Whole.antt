@@ -1,8 +1,8 @@
 -- A whole log page is read as it was written, and nothing else is.
-use Rattle.std.proofs.Common.{◌≡◌, ℕ, zero, suc, ◌-◌, ◌^◌, ◌≤◌, true, false, cond, eqb, leb, ltb, List, [], ◌∷◌, ◌++◌, length, take, drop, replicate, Option, Some, None, refl, sym, ap, subst, ◌∙◌, append_assoc, arith}
+use Rattle.std.proofs.Common.{◌≡◌, ℕ, ◌-◌, ◌^◌, ◌≤◌, true, false, cond, eqb, leb, ltb, List, ◌++◌, length, take, drop, replicate, Option, Some, None, refl, sym, ap, subst, ◌∙◌, append_assoc, arith}
 use Rattle.std.specs.Prelude.{◌&&◌, slice_index}
 use Rattle.std.specs.List.{list_all}
-use Rattle.std.proofs.lemmas.Bool.{and_from, and_parts, eqb-true, leb-true, le-leb, le-ltb, ltb-false}
+use Rattle.std.proofs.lemmas.Bool.{and_from, and_parts, leb-true, le-leb, le-ltb, ltb-false}
 use Rattle.std.proofs.lemmas.List.{drop_at, length-append, length-drop, length-take, take-append-drop, take_at}
 use Rattle.ol_values.specs.declared.record.Record.{Record}
 use Rattle.ol_values.proofs.Zeros.{zeros_again, zeros_from}
@@ -11,7 +11,7 @@ use Rattle.ol_values.specs.LogPages.{LogPage}
 use Rattle.ol_record.specs.LogPages.{IsImage, IsLogPage, fixed_bytes, head_of, log_page_bytes, padding, page_in, tally_bytes}
 use Rattle.ol_record.specs.PageReading.{body_at, head_at, in_limits, in_range, page_at}
 use Rattle.ol_record.specs.Reading.{records_in, whole_in}
-use Rattle.ol_record.specs.Spelling.{records_bytes}
+use Rattle.ol_values.specs.Spelling.{records_bytes}
 use Rattle.ol_record.proofs.Fields.{IsBytes, IsBytes-take, bind_some, guard_false, guard_true, some_is}
 use Rattle.ol_record.proofs.Heads.{Fits, front, head_again, head_takes}
 use Rattle.ol_record.proofs.Pages.{filling_from, gate_back, page_in_back}

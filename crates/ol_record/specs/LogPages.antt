@@ -7,7 +7,7 @@ use Rattle.ol_values.specs.declared.record.Record.TheVariants.{Begin, Change, Co
 use Rattle.ol_values.specs.LogPages.{LogPage}
 use Rattle.ol_record.specs.declared.head.LogHead.{LogHead}
 use Rattle.ol_record.specs.Reading.{records_in}
-use Rattle.ol_record.specs.Spelling.{IsRecord, records_bytes}
+use Rattle.ol_values.specs.Spelling.{IsRecord, records_bytes}
 
 -- the 32 bytes that stay as records come: the gate, a mark of the format, and the numbers of the page
 unfoldable pub fixed_bytes : ℕ → LogPage → List ℕ

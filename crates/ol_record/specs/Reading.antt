@@ -1,5 +1,5 @@
 -- Reading from left to right: each reader gives a value and the bytes behind it, or nothing.
-use Rattle.std.specs.Prelude.{Bool, List, None, Option, Some, [], drop, false, if◌then◌else◌, is_some, length, nat_lt, suc, take, zero, ℕ, ◌-◌, ◌==◌, ◌||◌, ◌∷◌, ◌≡◌}
+use Rattle.std.specs.Prelude.{Bool, List, None, Option, Some, [], drop, false, if◌then◌else◌, is_some, length, nat_lt, suc, take, zero, ℕ, ◌-◌, ◌==◌, ◌||◌, ◌∷◌}
 use Rattle.std.specs.Int.{Width, w16, w64, byte_len, from_be_bytes}
 use Rattle.ol_bytes.specs.Reading.{◌>>=◌}
 use Rattle.ol_values.specs.declared.record.Record.{Record}

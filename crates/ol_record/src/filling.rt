@@ -5,7 +5,8 @@ ghost use Rattle.std.specs.Bool.{OnFalse};
 ghost use Rattle.std.specs.Int.{w16, to_be_bytes};
 ghost use Rattle.ol_record.specs.LogPages.{IsBuffer, blank_page, fixed_bytes, log_page_bytes, page_in, tally_bytes, with_record};
 ghost use Rattle.ol_bytes.specs.Overwriting.{overwritten};
-ghost use Rattle.ol_record.specs.Spelling.{IsRecord, KeepsRules, record_bytes, records_bytes};
+ghost use Rattle.ol_values.specs.LogPages.{log_room, record_length, records_length};
+ghost use Rattle.ol_values.specs.Spelling.{IsRecord, KeepsRules, records_bytes};
 
 use crate::testing::PAGE_LENGTH;
 use crate::writing::{LONGEST_RECORD, encode};
@@ -88,7 +89,7 @@ fn append(page: &mut [u8], count: u16, used: u16, spelling: &[u8])
 pub fn push_record(page: &mut [u8; PAGE_LENGTH], rec: &Record) -> bool
     requires rules { KeepsRules rec.now }
     requires buffer { IsBuffer page.old }
-    ensures room { IsTrue result ↔ (length (records_bytes (page_in page.old).records) + length (record_bytes rec.now) ≤ 2012) }
+    ensures room { IsTrue result ↔ (records_length (page_in page.old).records + record_length rec.now ≤ log_room) }
     ensures buffer { IsBuffer page.new }
     ensures value { page_in page.new ≡ (if result then with_record (page_in page.old) rec.now else page_in page.old) }
     ensures gate { slice_index page.new 0 ≡ slice_index page.old 0 }

@@ -4,7 +4,7 @@ ghost use Rattle.std.specs.Prelude.{◌≡◌, ◌≤◌, ◌++◌, ◌∷◌, L
 ghost use Rattle.ol_values.specs.declared.record.Record.{Record as RecordValue};
 ghost use Rattle.ol_values.specs.LogPages.{LogPage};
 ghost use Rattle.ol_record.specs.LogPages.{IsFilling, IsLogPage, log_page_bytes, page_in, touches_page};
-ghost use Rattle.ol_record.specs.Spelling.{IsRecord, KeepsRules, record_bytes};
+ghost use Rattle.ol_values.specs.Spelling.{IsRecord, KeepsRules, record_bytes};
 
 /// No spelling of a record begins another. So bytes begin with one record at most, and a list of bytes
 /// is the spelling of one list of records at most.

@@ -3,7 +3,7 @@
 ghost use Rattle.std.specs.Prelude.{◌≡◌, ◌≤◌, ◌++◌, List, ℕ, IfSome, Some, length, take};
 ghost use Rattle.std.specs.Int.{w64};
 ghost use Rattle.ol_values.specs.declared.record.Record.{Record as RecordValue};
-ghost use Rattle.ol_record.specs.Spelling.{IsRecord, record_bytes};
+ghost use Rattle.ol_values.specs.Spelling.{IsRecord, record_bytes};
 ghost use Rattle.ol_bytes.specs.Reading.{Gives};
 ghost use Rattle.ol_record.specs.Reading.{change_at, kind_at, number_at, place_at, record_at, row_at, undo_at, value_at};
 

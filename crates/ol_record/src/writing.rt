@@ -2,7 +2,8 @@
 
 ghost use Rattle.std.specs.Prelude.{◌≡◌, ◌+◌, ◌≤◌, ◌++◌, ◌∷◌, ◌<◌, ◌^◌, [], length, take};
 ghost use Rattle.std.specs.Int.{w64, to_be_bytes};
-ghost use Rattle.ol_record.specs.Spelling.{IsPlace, IsRecord, IsValue, KeepsRules, place_bytes, record_bytes, value_bytes};
+ghost use Rattle.ol_values.specs.LogPages.{record_length, value_length};
+ghost use Rattle.ol_values.specs.Spelling.{IsPlace, IsRecord, IsValue, KeepsRules, place_bytes, record_bytes, value_bytes};
 
 use ol_bytes::put;
 use ol_values::{Record, Rid, Row};
@@ -37,8 +38,8 @@ fn put_place(out: &mut [u8], at: usize, rid: &Rid) -> usize
 /// empty row from nothing.
 fn put_value(out: &mut [u8], at: usize, value: &Option<Row>) -> usize
     requires { at + 64 ≤ length out.old }
-    ensures next { result ≡ at + length (value_bytes value.now) }
-    ensures limit { length (value_bytes value.now) ≤ 64 }
+    ensures next { result ≡ at + value_length value.now }
+    ensures limit { value_length value.now ≤ 64 }
     ensures front { take result out.new ≡ take at out.old ++ value_bytes value.now }
     ensures fits { IsValue value.now }
 {
@@ -54,11 +55,11 @@ fn put_value(out: &mut [u8], at: usize, value: &Option<Row>) -> usize
 
 /// Writes a record at the front of the buffer, and gives how many bytes it has. The bytes behind them are
 /// not promised.
-#[tactic(auto, unfolding(crate::specs::Spelling::record_bytes))]
+#[tactic(auto, unfolding(ol_values::specs::Spelling::record_bytes))]
 pub fn encode(rec: &Record, buf: &mut [u8; LONGEST_RECORD]) -> usize
     requires { KeepsRules rec.now }
     ensures bytes { take result buf.new ≡ record_bytes rec.now }
-    ensures length { result ≡ length (record_bytes rec.now) }
+    ensures length { result ≡ record_length rec.now }
     ensures limit { result ≤ 141 }
     ensures grammar { IsRecord rec.now }
 {

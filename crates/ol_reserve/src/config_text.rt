@@ -3,6 +3,7 @@
 ghost use Rattle.std.specs.Prelude.{◌≡◌, ◌≤◌, length};
 ghost use Rattle.std.specs.Option.{SomeIff};
 
+use ol_values::Bytes;
 use std::marker::Model;
 
 /// The most bytes that the text of a configuration has.
@@ -12,26 +13,17 @@ pub const TEXT_LIMIT: usize = 1024;
 /// anchor takes no memory.
 #[derive(Debug, PartialEq, Eq, Drop)]
 pub struct ConfigText {
-    count: u16,
-    bytes: [u8; TEXT_LIMIT],
+    bytes: Bytes<TEXT_LIMIT>,
 }
 
 impl Model for ConfigText {
-    ghost use Rattle.std.specs.Prelude.{List, ℕ, length, take};
-    ghost use Rattle.std.proofs.Common.{ap, ◌∙◌};
-    ghost use Rattle.ol_values.specs.Held.{IsHeld, held_in, held_back, length-held};
+    ghost use Rattle.std.specs.Prelude.{List, ℕ};
 
     ghost Value = { List ℕ };
 
-    ghost view = { λ r. take r.count r.bytes };
+    ghost view = { λ r. r.bytes };
 
-    ghost invariant = { λ r. IsHeld 0 1024 r.count r.bytes };
-
-    ghost inverse = { λ v. record { count = length v; bytes = held_in 0 1024 v } };
-
-    ghost inverse_ok = { λ a h.
-        ap (λ (n : ℕ). let r : Inside = record { count = n; bytes = held_in 0 1024 (take a.count a.bytes) } in r) (length-held 0 1024 a.count a.bytes h)
-        ∙ ap (λ (b : List ℕ). let r : Inside = record { count = a.count; bytes = b } in r) (held_back 0 1024 a.count a.bytes h) };
+    ghost inverse = { λ v. record { bytes = v } };
 }
 
 impl ConfigText {
@@ -39,13 +31,8 @@ impl ConfigText {
     pub fn new(bytes: &[u8]) -> Option<ConfigText>
         ensures { SomeIff result (length bytes.now ≤ 1024) bytes.now }
     {
-        if bytes.len() > TEXT_LIMIT {
-            return None;
-        }
-        let mut held = [0; TEXT_LIMIT];
-        held[..bytes.len()].copy_from_slice(bytes);
-        let count = bytes.len() as u16;
-        Some(ConfigText { count, bytes: held })
+        let bytes = Bytes::new(bytes)?;
+        Some(ConfigText { bytes })
     }
 
     /// The bytes of the text.
@@ -53,6 +40,6 @@ impl ConfigText {
         ensures value { result.now ≡ self.now }
         ensures limit { length self.now ≤ 1024 }
     {
-        &self.bytes[..self.count as usize]
+        self.bytes.as_slice()
     }
 }

@@ -1,8 +1,8 @@
 //! The entries of a history in words.
 
-use crate::trouble::Trouble;
 use ol_chunks::ChunkTable;
 use ol_script::{ENTRY_LIMIT, text};
+use ol_stage::Trouble;
 use ol_values::{Entry, Event, Label, Why};
 use std::alloc::AllocError;
 use std::fmt::Write;
@@ -76,8 +76,8 @@ fn tell_cancel(why: Why, told: &mut String) -> Result<(), AllocError> {
 
 /// The text of bytes.
 fn words(bytes: &[u8]) -> Result<&str, Trouble> {
-    match std::str::from_utf8(bytes) {
-        Ok(text) => Ok(text),
-        Err(_) => Err(Trouble::NoWords),
-    }
+    let Ok(text) = std::str::from_utf8(bytes) else {
+        return Err(Trouble::NoWords);
+    };
+    Ok(text)
 }

@@ -2,19 +2,14 @@
 //! What each line does says `Step`.
 #![tactic(auto)]
 
-mod devices;
-mod disks;
 mod entries;
-mod outcomes;
+mod numbers;
 mod pages;
 mod player;
 mod repeats;
-mod rigs;
-mod shelves;
 mod steps;
-mod tapes;
 mod texts;
-mod trouble;
+mod words;
 mod world;
 
 pub use player::play;

@@ -3,8 +3,8 @@
 use crate::repeats::{Alike, Repeat};
 use crate::steps::{Step, parse};
 use crate::texts::Texts;
-use crate::trouble::Trouble;
 use crate::world::World;
+use ol_stage::Trouble;
 use std::alloc::{AllocError, Global};
 use std::fmt::Write;
 use std::io;
@@ -118,7 +118,8 @@ impl Player {
                 input,
                 quiet,
             } => self.run(&words, input, quiet, told),
-            step => self.world.carry_out(step, told),
+            Step::Set { setting } => self.world.set(setting),
+            Step::Show { show } => self.world.show(show, told),
         }
     }
 

@@ -1,7 +1,8 @@
 //! Lines that are played for each of some numbers.
 
-use crate::steps::number;
-use crate::trouble::Trouble;
+use crate::numbers::number;
+use crate::words::is_same;
+use ol_stage::Trouble;
 use std::alloc::{AllocError, Global};
 use std::fmt::Write;
 
@@ -57,7 +58,7 @@ impl Repeat {
     }
 
     fn put_word(&self, word: &str, value: u32, text: &mut String) -> Result<(), AllocError> {
-        if word == self.word.as_str() {
+        if is_same(word, self.word.as_str()) {
             write!(text, "{value}")
         } else {
             text.push_str(word)
@@ -92,7 +93,7 @@ impl Alike {
 
     /// Whether this was told for the numbers.
     pub fn is_told(&self, outcome: &str) -> bool {
-        self.outcome.as_str() == outcome
+        is_same(self.outcome.as_str(), outcome)
     }
 
     /// The numbers up to one more.
@@ -114,9 +115,14 @@ impl Alike {
 
     fn tell_outcome(&self, told: &mut String) -> Result<(), AllocError> {
         for (index, line) in self.outcome.lines().enumerate() {
-            told.push_str(if index > 0 { " / " } else { " " })?;
+            told.push_str(gap_before(index))?;
             told.push_str(line)?;
         }
         Ok(())
     }
+}
+
+/// What stands in front of a line of an outcome.
+fn gap_before(index: usize) -> &'static str {
+    if index > 0 { " / " } else { " " }
 }

@@ -1,21 +1,9 @@
 //! The steps of a scene, read from their lines.
 
-use crate::devices::{Device, Fault, Load};
-use crate::disks::Spoiled;
-use crate::trouble::Trouble;
-use ol_outside::{Choice, DRIVES};
+use crate::numbers::{byte, choice, drive, number, numbers, offset, place, small};
+use crate::words::with_blanks;
+use ol_stage::{BlockPlace, Device, DiskDamage, Fault, Load, Spoiled, TapeDamage, Trouble};
 use std::alloc::Global;
-
-/// A block of the shelf. Volumes are counted from 1, blocks from 0.
-#[derive(Clone, Copy)]
-pub struct BlockPlace {
-    /// The drive that wrote the volume.
-    pub drive: u8,
-    /// The volume.
-    pub volume: u32,
-    /// The block of the volume.
-    pub block: u32,
-}
 
 /// What a step shows.
 #[derive(Clone, Copy)]
@@ -32,17 +20,9 @@ pub enum Show {
     Output,
 }
 
-/// A line of a scene. Numbers are decimal.
+/// A step that sets the devices up or damages them.
 #[derive(Drop)]
-pub enum Step {
-    /// An empty line, or a comment behind `#`.
-    Nothing,
-    /// `scene NAME..`: a new world. The texts stay.
-    Scene,
-    /// `text NAME`: a text begins, whose lines stand behind bars.
-    Text {
-        name: String,
-    },
+pub enum Setting {
     /// `chunks P..`: a disk of zeros with chunks of so many pages.
     Chunks {
         pages: Vec<u32>,
@@ -55,52 +35,42 @@ pub enum Step {
     Fail {
         fault: Fault,
     },
+    /// `stop M old|new|BYTE`: a stop within call M of the last command, or with `rest` for M behind it, and what it
+    /// leaves in the place of bytes that were not synced. `clear C`: a lost chunk, which reads as zeros. `byte C P O V`:
+    /// the byte at offset O of page P of chunk C is V from now on. `size C PAGES`: the disk says from now on that the
+    /// chunk has so many pages. `spoil C P BYTE`: the page reads as that byte all over from now on.
+    Disk {
+        damage: DiskDamage,
+    },
+    /// `flip D V B I`: all bits of byte I of a block are turned. `cut D V B`: the blocks of a volume from B on are gone.
+    /// `drop D V B N`: N blocks of a volume from B on are gone, and those behind them move up.
+    Tape {
+        place: BlockPlace,
+        damage: TapeDamage,
+    },
+}
+
+/// A line of a scene. Numbers are decimal.
+#[derive(Drop)]
+pub enum Step {
+    /// An empty line, or a comment behind `#`.
+    Nothing,
+    /// `scene NAME..`: a new world. The texts stay.
+    Scene,
+    /// `text NAME`: a text begins, whose lines stand behind bars.
+    Text {
+        name: String,
+    },
+    /// A step that sets the devices up or damages them.
+    Set {
+        setting: Setting,
+    },
     /// `run WORD.. [< TEXT]`: a command, with a text on its source; behind `quiet`, its output is not told. The word `""`
     /// has no byte, and a tilde in a word stands for a blank.
     Run {
         words: Vec<String>,
         input: Option<String>,
         quiet: bool,
-    },
-    /// `stop M old|new|BYTE`: a stop within call M of the last command, or with `rest` for M behind it, and what it
-    /// leaves in the place of bytes that were not synced.
-    Stop {
-        moment: Option<u64>,
-        choice: Choice,
-    },
-    /// `clear C`: a lost chunk, which reads as zeros.
-    Clear {
-        chunk: u8,
-    },
-    /// `byte C P O V`: the byte at offset O of page P of chunk C is V from now on.
-    Byte {
-        chunk: u8,
-        page: u32,
-        offset: u16,
-        byte: u8,
-    },
-    /// `flip D V B I`: all bits of byte I of a block are turned.
-    Flip {
-        place: BlockPlace,
-        byte: u16,
-    },
-    /// `cut D V B`: the blocks of a volume from B on are gone.
-    Cut {
-        place: BlockPlace,
-    },
-    /// `drop D V B N`: N blocks of a volume from B on are gone, and those behind them move up.
-    Remove {
-        place: BlockPlace,
-        count: u32,
-    },
-    /// `size C PAGES`: the disk says from now on that the chunk has so many pages.
-    Size {
-        chunk: u8,
-        pages: u32,
-    },
-    /// `spoil C P BYTE`: the page reads as that byte all over from now on.
-    Spoil {
-        spoiled: Spoiled,
     },
     /// `show ..`.
     Show {
@@ -123,103 +93,139 @@ pub fn parse(alloc: Global, line: &str) -> Result<Step, Trouble> {
         }),
         ["quiet", "run", given @ ..] => parse_run(alloc, given, true),
         ["run", given @ ..] => parse_run(alloc, given, false),
-        ["show", shown @ ..] => parse_show(shown),
-        ["fail", failing @ ..] => parse_fail(alloc, failing),
-        other => parse_setting(alloc, other),
+        ["show", shown @ ..] => Ok(Step::Show {
+            show: parse_show(shown)?,
+        }),
+        other => Ok(Step::Set {
+            setting: parse_setting(alloc, other)?,
+        }),
     }
 }
 
 /// Reads a step that sets a device up or damages it.
-fn parse_setting(alloc: Global, words: &[&str]) -> Result<Step, Trouble> {
+fn parse_setting(alloc: Global, words: &[&str]) -> Result<Setting, Trouble> {
     match words {
-        ["chunks", pages @ ..] => parse_chunks(alloc, pages),
-        ["drive", number, blocks, volumes] => Ok(Step::Drive {
-            load: Load {
-                drive: drive(number)?,
-                blocks: small(blocks)?,
-                volumes: small(volumes)?,
-            },
+        ["chunks", pages @ ..] => Ok(Setting::Chunks {
+            pages: parse_chunks(alloc, pages)?,
         }),
-        ["stop", "rest", left] => Ok(Step::Stop {
-            moment: None,
-            choice: choice(left)?,
+        ["drive", number, blocks, volumes] => Ok(Setting::Drive {
+            load: parse_load(number, blocks, volumes)?,
         }),
-        ["stop", moment, left] => Ok(Step::Stop {
-            moment: Some(number(moment)?),
-            choice: choice(left)?,
-        }),
-        ["clear", chunk] => Ok(Step::Clear {
-            chunk: byte(chunk)?,
-        }),
-        ["byte", chunk, page, at, value] => Ok(Step::Byte {
-            chunk: byte(chunk)?,
-            page: small(page)?,
-            offset: offset(at)?,
-            byte: byte(value)?,
+        ["fail", failing @ ..] => Ok(Setting::Fail {
+            fault: parse_fail(alloc, failing)?,
         }),
         other => parse_damage(other),
     }
 }
 
-/// Reads a step that damages the shelf, or lets the disk say what isn't so.
-fn parse_damage(words: &[&str]) -> Result<Step, Trouble> {
+/// Reads a step that damages the shelf or the disk.
+fn parse_damage(words: &[&str]) -> Result<Setting, Trouble> {
     match words {
-        ["flip", number, volume, block, at] => Ok(Step::Flip {
+        ["flip", number, volume, block, at] => Ok(Setting::Tape {
             place: place(number, volume, block)?,
-            byte: offset(at)?,
+            damage: TapeDamage::Flip { byte: offset(at)? },
         }),
-        ["cut", number, volume, block] => Ok(Step::Cut {
+        ["cut", number, volume, block] => Ok(Setting::Tape {
             place: place(number, volume, block)?,
+            damage: TapeDamage::Cut,
         }),
-        ["drop", number, volume, block, count] => Ok(Step::Remove {
+        ["drop", number, volume, block, count] => Ok(Setting::Tape {
             place: place(number, volume, block)?,
-            count: small(count)?,
+            damage: TapeDamage::Remove {
+                count: small(count)?,
+            },
         }),
-        ["size", chunk, pages] => Ok(Step::Size {
+        other => Ok(Setting::Disk {
+            damage: parse_disk(other)?,
+        }),
+    }
+}
+
+fn parse_load(number: &str, blocks: &str, volumes: &str) -> Result<Load, Trouble> {
+    Ok(Load {
+        drive: drive(number)?,
+        blocks: small(blocks)?,
+        volumes: small(volumes)?,
+    })
+}
+
+/// Reads what damages the disk, or lets it say what isn't so.
+fn parse_disk(words: &[&str]) -> Result<DiskDamage, Trouble> {
+    match words {
+        ["stop", "rest", left] => Ok(DiskDamage::Stop {
+            moment: None,
+            choice: choice(left)?,
+        }),
+        ["stop", moment, left] => Ok(DiskDamage::Stop {
+            moment: Some(number(moment)?),
+            choice: choice(left)?,
+        }),
+        ["clear", chunk] => Ok(DiskDamage::Clear {
+            chunk: byte(chunk)?,
+        }),
+        ["byte", chunk, page, at, value] => parse_byte(chunk, page, at, value),
+        ["size", chunk, pages] => Ok(DiskDamage::Size {
             chunk: byte(chunk)?,
             pages: small(pages)?,
         }),
-        ["spoil", chunk, page, value] => Ok(Step::Spoil {
-            spoiled: Spoiled {
-                chunk: byte(chunk)?,
-                page: small(page)?,
-                byte: byte(value)?,
-            },
+        ["spoil", chunk, page, value] => Ok(DiskDamage::Spoil {
+            spoiled: parse_spoiled(chunk, page, value)?,
         }),
         _ => Err(Trouble::NoStep),
     }
 }
 
-fn parse_show(words: &[&str]) -> Result<Step, Trouble> {
-    let show = match words {
-        ["tape", number] => Show::Tape {
-            drive: drive(number)?,
-        },
-        ["page", chunk, page] => Show::Page {
-            chunk: byte(chunk)?,
-            page: small(page)?,
-        },
-        ["calls"] => Show::Calls,
-        ["entries"] => Show::Entries,
-        ["output"] => Show::Output,
-        _ => return Err(Trouble::NoStep),
-    };
-    Ok(Step::Show { show })
+fn parse_byte(chunk: &str, page: &str, at: &str, value: &str) -> Result<DiskDamage, Trouble> {
+    Ok(DiskDamage::Byte {
+        chunk: byte(chunk)?,
+        page: small(page)?,
+        offset: offset(at)?,
+        byte: byte(value)?,
+    })
 }
 
-fn parse_fail(alloc: Global, words: &[&str]) -> Result<Step, Trouble> {
-    let (device, calls) = match words {
-        ["disk", calls @ ..] => (Device::Disk, calls),
-        ["drive", number, calls @ ..] => (Device::Drive(drive(number)?), calls),
-        ["shelf", calls @ ..] => (Device::Shelf, calls),
-        ["source", calls @ ..] => (Device::Source, calls),
-        ["sink", calls @ ..] => (Device::Sink, calls),
-        _ => return Err(Trouble::NoStep),
-    };
-    let calls = numbers(alloc, calls)?;
-    Ok(Step::Fail {
-        fault: Fault { device, calls },
+fn parse_spoiled(chunk: &str, page: &str, value: &str) -> Result<Spoiled, Trouble> {
+    Ok(Spoiled {
+        chunk: byte(chunk)?,
+        page: small(page)?,
+        byte: byte(value)?,
     })
+}
+
+fn parse_show(words: &[&str]) -> Result<Show, Trouble> {
+    match words {
+        ["tape", number] => Ok(Show::Tape {
+            drive: drive(number)?,
+        }),
+        ["page", chunk, page] => Ok(Show::Page {
+            chunk: byte(chunk)?,
+            page: small(page)?,
+        }),
+        ["calls"] => Ok(Show::Calls),
+        ["entries"] => Ok(Show::Entries),
+        ["output"] => Ok(Show::Output),
+        _ => Err(Trouble::NoStep),
+    }
+}
+
+/// Reads the device whose calls fail, and their numbers.
+fn parse_fail(alloc: Global, words: &[&str]) -> Result<Fault, Trouble> {
+    let (device, calls) = failing_device(words)?;
+    Ok(Fault {
+        device,
+        calls: numbers(alloc, calls)?,
+    })
+}
+
+fn failing_device<'a>(words: &'a [&'a str]) -> Result<(Device, &'a [&'a str]), Trouble> {
+    match words {
+        ["disk", calls @ ..] => Ok((Device::Disk, calls)),
+        ["drive", number, calls @ ..] => Ok((Device::Drive(drive(number)?), calls)),
+        ["shelf", calls @ ..] => Ok((Device::Shelf, calls)),
+        ["source", calls @ ..] => Ok((Device::Source, calls)),
+        ["sink", calls @ ..] => Ok((Device::Sink, calls)),
+        _ => Err(Trouble::NoStep),
+    }
 }
 
 fn parse_run(alloc: Global, given: &[&str], quiet: bool) -> Result<Step, Trouble> {
@@ -247,82 +253,16 @@ fn command_words(alloc: Global, given: &[&str]) -> Result<Vec<String>, Trouble> 
 }
 
 fn command_word(alloc: Global, word: &str) -> Result<String, Trouble> {
-    if word == "\"\"" {
-        return Ok(String::new(alloc));
+    match word {
+        "\"\"" => Ok(String::new(alloc)),
+        other => Ok(with_blanks(alloc, other)?),
     }
-    Ok(word.replace(alloc, "~", " ")?)
 }
 
-fn parse_chunks(alloc: Global, words: &[&str]) -> Result<Step, Trouble> {
+fn parse_chunks(alloc: Global, words: &[&str]) -> Result<Vec<u32>, Trouble> {
     let mut pages = Vec::new(alloc);
     for word in words {
         pages.push(small(word)?)?;
     }
-    Ok(Step::Chunks { pages })
-}
-
-fn numbers(alloc: Global, words: &[&str]) -> Result<Vec<u64>, Trouble> {
-    let mut numbers = Vec::new(alloc);
-    for word in words {
-        numbers.push(number(word)?)?;
-    }
-    Ok(numbers)
-}
-
-fn place(number: &str, volume: &str, block: &str) -> Result<BlockPlace, Trouble> {
-    Ok(BlockPlace {
-        drive: drive(number)?,
-        volume: small(volume)?,
-        block: small(block)?,
-    })
-}
-
-/// What a stop leaves in the place of bytes that were not synced.
-fn choice(word: &str) -> Result<Choice, Trouble> {
-    match word {
-        "old" => Ok(Choice::Old),
-        "new" => Ok(Choice::New),
-        other => Ok(Choice::Fill(byte(other)?)),
-    }
-}
-
-/// The number of a drive.
-fn drive(word: &str) -> Result<u8, Trouble> {
-    let drive = byte(word)?;
-    if drive < DRIVES {
-        Ok(drive)
-    } else {
-        Err(Trouble::NoDrive)
-    }
-}
-
-/// A decimal number.
-///
-/// `NoNumber` comes where the word is none, or a `u64` doesn't hold it.
-pub fn number(word: &str) -> Result<u64, Trouble> {
-    match word.parse::<u64>() {
-        Ok(number) => Ok(number),
-        Err(_) => Err(Trouble::NoNumber),
-    }
-}
-
-fn small(word: &str) -> Result<u32, Trouble> {
-    match word.parse::<u32>() {
-        Ok(number) => Ok(number),
-        Err(_) => Err(Trouble::NoNumber),
-    }
-}
-
-fn offset(word: &str) -> Result<u16, Trouble> {
-    match word.parse::<u16>() {
-        Ok(number) => Ok(number),
-        Err(_) => Err(Trouble::NoNumber),
-    }
-}
-
-fn byte(word: &str) -> Result<u8, Trouble> {
-    match word.parse::<u8>() {
-        Ok(number) => Ok(number),
-        Err(_) => Err(Trouble::NoNumber),
-    }
+    Ok(pages)
 }

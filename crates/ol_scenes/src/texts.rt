@@ -1,7 +1,8 @@
 //! Named texts, which commands read.
 
-use crate::steps::number;
-use crate::trouble::Trouble;
+use crate::numbers::number;
+use crate::words::is_same;
+use ol_stage::Trouble;
 use std::alloc::{AllocError, Global};
 
 /// The number of hexadecimal digits of a byte.
@@ -44,7 +45,7 @@ impl Texts {
     /// `NoText` comes where there is none.
     pub fn find(&self, name: &str) -> Result<&[u8], Trouble> {
         for named in self.texts.iter().rev() {
-            if named.name.as_str() == name {
+            if is_same(named.name.as_str(), name) {
                 return Ok(named.bytes.as_slice());
             }
         }

@@ -37,7 +37,7 @@ pub enum ScriptFault {
 }
 
 /// A script, which contracts see as its lines in order. They are lines that a script may have.
-#[derive(Debug, Drop)]
+#[derive(Drop)]
 pub struct Script {
     alloc: Global,
     lines: Lines,

@@ -1,7 +1,6 @@
 //! Configurations: where their spaces and areas lie.
 
 use ol_chunks::{Area, ChunkTable, Name, parse_config};
-use std::process::Abort;
 use std::test::Fail;
 
 /// Two spaces, of which root has all areas.
@@ -152,124 +151,85 @@ const CHUNKS: Known = Known {
     ],
 };
 
-/// Requires that a table has the spaces and chunks that are known.
-fn require_parts(rt: &impl Abort, table: &ChunkTable, known: &Known) -> Result<(), Fail> {
-    let text = known.text;
-    assert_eq!(rt;
-        usize::from(table.spaces()),
-        known.spaces.len(),
-        "of {text:?}"
-    );
-    for space in 0..table.spaces() {
-        let (name, pages, critical) = known.spaces.get(usize::from(space)).ok_or("no space")?;
-        assert_eq!(rt;
-            table.name(space).bytes(),
-            *name,
-            "space {space} of {text:?}"
-        );
-        assert_eq!(rt; table.pages(space), *pages, "space {space} of {text:?}");
-        assert_eq!(rt;
-            table.critical(space),
-            *critical,
-            "space {space} of {text:?}"
-        );
-        let name = Name::new(name).ok_or("no name")?;
-        assert_eq!(rt; table.find(&name), Some(space), "space {space} of {text:?}");
+/// Whether a table has the spaces that are known, and finds them by their names.
+fn has_spaces(table: &ChunkTable, known: &Known) -> bool {
+    for (space, (name, pages, critical)) in known.spaces.iter().enumerate() {
+        if space >= usize::from(table.spaces()) {
+            return false;
+        }
+        let space = space as u8;
+        let is_told = table.name(space).bytes() == *name && table.pages(space) == *pages;
+        if !is_told || table.critical(space) != *critical || found(table, name) != Some(space) {
+            return false;
+        }
     }
-    let other = Name::new(b"nosuch").ok_or("no name")?;
-    assert_eq!(rt; table.find(&other), None, "of {text:?}");
-    assert_eq!(rt;
-        usize::from(table.chunks()),
-        known.chunks.len(),
-        "of {text:?}"
-    );
+    usize::from(table.spaces()) == known.spaces.len() && found(table, b"nosuch").is_none()
+}
+
+/// The space of a name.
+fn found(table: &ChunkTable, name: &[u8]) -> Option<u8> {
+    table.find(&Name::new(name)?)
+}
+
+/// Whether a table has the chunks that are known, and no page behind them.
+fn has_chunks(table: &ChunkTable, known: &Known) -> bool {
     for (chunk, (pages, space)) in known.chunks.iter().enumerate() {
+        if chunk >= usize::from(table.chunks()) {
+            return false;
+        }
         let chunk = chunk as u8;
-        assert_eq!(rt;
-            table.chunk_pages(chunk),
-            *pages,
-            "chunk {chunk} of {text:?}"
-        );
-        assert_eq!(rt; table.space_of(chunk), *space, "chunk {chunk} of {text:?}");
+        if table.chunk_pages(chunk) != *pages || table.space_of(chunk) != *space {
+            return false;
+        }
     }
-    assert_eq!(rt;
-        table.chunk_pages(table.chunks()),
-        0,
-        "behind the chunks of {text:?}"
-    );
-    Ok(())
+    usize::from(table.chunks()) == known.chunks.len() && table.chunk_pages(table.chunks()) == 0
 }
 
-/// Requires that a table has the areas and places that are known.
-fn require_places(rt: &impl Abort, table: &ChunkTable, known: &Known) {
-    let text = known.text;
-    let (chunk, first, count) = known.physical;
-    let pages = 2;
-    let physical = Area {
-        chunk,
-        first,
-        count,
-        pages,
-    };
-    assert_eq!(rt; table.physical(), physical, "of {text:?}");
-    let (chunk, first, count, pages) = known.logs;
-    let logs = Area {
-        chunk,
-        first,
-        count,
-        pages,
-    };
-    assert_eq!(rt; table.logs(), logs, "of {text:?}");
-    let (chunk, count) = known.before;
-    let (first, pages) = (0, 1);
-    let before = Area {
-        chunk,
-        first,
-        count,
-        pages,
-    };
-    assert_eq!(rt; table.before(), before, "of {text:?}");
+/// Whether an area begins at this page of this chunk, and has so many parts of so many pages.
+fn is_area(area: Area, chunk: u8, first: u32, count: u32, pages: u32) -> bool {
+    (area.chunk, area.first) == (chunk, first) && (area.count, area.pages) == (count, pages)
+}
+
+/// Whether a table has the areas that are known.
+fn has_areas(table: &ChunkTable, known: &Known) -> bool {
+    let (physical, logs, before) = (known.physical, known.logs, known.before);
+    is_area(table.physical(), physical.0, physical.1, physical.2, 2)
+        && is_area(table.logs(), logs.0, logs.1, logs.2, logs.3)
+        && is_area(table.before(), before.0, 0, before.1, 1)
+}
+
+/// Whether the pages that are known lie in their places.
+fn has_places(table: &ChunkTable, known: &Known) -> bool {
     for (space, page, place) in known.places {
-        assert_eq!(rt;
-            table.place(*space, *page),
-            *place,
-            "page {space}:{page} of {text:?}"
-        );
+        if table.place(*space, *page) != *place {
+            return false;
+        }
     }
+    true
 }
 
-/// Requires that a table tells this text, and writes nothing behind it.
-fn require_text(rt: &impl Abort, table: &ChunkTable, text: &str) {
+/// Whether a table tells this text, and writes nothing behind it.
+fn has_text(table: &ChunkTable, text: &str) -> bool {
     let mut told = [0xff; 1024];
     let length = table.text(&mut told);
-    assert_eq!(rt;
-        told.get(..length),
-        Some(text.as_bytes()),
-        "the text of {text:?}"
-    );
-    assert_eq!(rt;
-        told.get(length),
-        Some(&0xff),
-        "behind the text of {text:?}"
-    );
-}
-
-/// Requires that a configuration lies as it is known, and tells its text again.
-fn require_known(rt: &(impl Abort + AllocGlobal), known: &Known) -> Result<(), Fail> {
-    let text = known.text;
-    let Ok(table) = parse_config(rt.alloc(), text.as_bytes()) else {
-        panic!(rt; "{text:?} is refused");
-    };
-    require_parts(rt, &table, known)?;
-    require_places(rt, &table, known);
-    require_text(rt, &table, text);
-    Ok(())
+    let (front, behind) = told.split_at(length);
+    front == text.as_bytes() && behind.first() == Some(&0xff)
 }
 
 #[test]
 fn configurations_lie_where_they_should(rt: HostRuntime) -> Result<(), Fail> {
     for known in &[SMALL, SHORT_LOGS, THREE_SPACES, ONE_IMAGE, LARGE, CHUNKS] {
-        require_known(&rt, known)?;
+        let Ok(table) = parse_config(rt.alloc(), known.text.as_bytes()) else {
+            panic!(rt; "a configuration is refused");
+        };
+        let told = [
+            has_spaces(&table, known),
+            has_chunks(&table, known),
+            has_areas(&table, known),
+            has_places(&table, known),
+            has_text(&table, known.text),
+        ];
+        assert_eq!(rt; told, [true; 5], "of {}", known.text);
     }
     Ok(())
 }

@@ -1,9 +1,10 @@
-//! Scripts: the lines of each form, and the texts of replies.
+//! Scripts: the lines of each form, and the texts of entries.
 
 use crate::configs::SMALL_CONFIG;
+use crate::values::is_label;
 use ol_chunks::{ChunkTable, parse_config};
-use ol_script::{ENTRY_LIMIT, ScriptFault, parse_text, text};
-use ol_values::{Actor, Entry, Event, Form, Label, Labels, Reply, Rid, Row, Target};
+use ol_script::{ENTRY_LIMIT, Script, ScriptFault, parse_text, text};
+use ol_values::{Actor, Entry, Event, Form, Labels, Line, Reply, Rid, Row, Target};
 use std::process::Abort;
 use std::test::Fail;
 
@@ -42,147 +43,195 @@ const ENGINE_SCRIPT: &[u8] = b"s16 begin\n\
     c1 checkpoint\n\
     w1 restore data1\n";
 
-fn label(rt: &impl Abort, bytes: &[u8]) -> Label {
-    Label::new(bytes).expect(rt, "no label")
+/// A row as a line names it.
+#[derive(Clone, Copy)]
+enum Named {
+    Reg(u8),
+    At(&'static [u8], u32, u32),
 }
 
-fn row(rt: &impl Abort, bytes: &[u8]) -> Row {
-    Row::new(bytes).expect(rt, "no row")
+/// What a line asks for, with names and rows as their bytes.
+#[derive(Clone, Copy)]
+enum Asked {
+    Begin,
+    Insert(u8, &'static [u8], &'static [u8]),
+    Update(Named, &'static [u8]),
+    Delete(Named),
+    Read(Named),
+    List(&'static [u8], u32),
+    Commit,
+    Rollback,
+    Start(u8, &'static [&'static [u8]]),
+    Turn(u16),
+    End,
+    Cancel,
+    Archive(u8, &'static [&'static [u8]]),
+    Backup(u16),
+    Switch,
+    Clean(u16),
+    Checkpoint,
+    Restore(&'static [u8]),
 }
 
-fn insert(rt: &impl Abort, reg: u8, space: &[u8], bytes: &[u8]) -> Form {
-    Form::Insert {
-        reg,
-        space: label(rt, space),
-        row: row(rt, bytes),
+/// Whether a line names this row.
+fn is_named(target: &Target, named: Named) -> bool {
+    match (target, named) {
+        (Target::Reg(reg), Named::Reg(other)) => *reg == other,
+        (Target::At { space, page, slot }, Named::At(name, other_page, other_slot)) => {
+            is_label(space, name) && (*page, *slot) == (other_page, other_slot)
+        }
+        _ => false,
     }
 }
 
-fn at(rt: &impl Abort, space: &[u8], page: u32, slot: u32) -> Target {
-    Target::At {
-        space: label(rt, space),
-        page,
-        slot,
+/// Whether a row has these bytes.
+fn is_row(row: &Row, bytes: &[u8]) -> bool {
+    row.as_slice() == bytes
+}
+
+/// Whether labels have these bytes.
+fn are_labels(labels: &Labels, names: &[&[u8]]) -> bool {
+    let labels = labels.as_slice();
+    labels.len() == names.len()
+        && labels
+            .iter()
+            .zip(names)
+            .all(|(label, name)| is_label(label, name))
+}
+
+/// Whether a line of a session asks for this.
+fn is_asked(form: &Form, asked: Asked) -> bool {
+    match (form, asked) {
+        (Form::Begin, Asked::Begin) => true,
+        (Form::Insert { reg, space, row }, Asked::Insert(other, name, bytes)) => {
+            *reg == other && is_label(space, name) && is_row(row, bytes)
+        }
+        (Form::Update { target, row }, Asked::Update(named, bytes)) => {
+            is_named(target, named) && is_row(row, bytes)
+        }
+        (Form::Delete { target }, Asked::Delete(named)) => is_named(target, named),
+        (Form::Read { target }, Asked::Read(named)) => is_named(target, named),
+        (Form::List { space, page }, Asked::List(name, other)) => {
+            is_label(space, name) && *page == other
+        }
+        (Form::Commit, Asked::Commit) => true,
+        (Form::Rollback, Asked::Rollback) => true,
+        _ => is_asked_of_engine(form, asked),
     }
 }
 
-fn list(rt: &impl Abort, space: &[u8], page: u32) -> Form {
-    Form::List {
-        space: label(rt, space),
-        page,
+/// Whether a line of another actor asks for this.
+fn is_asked_of_engine(form: &Form, asked: Asked) -> bool {
+    match (form, asked) {
+        (Form::Start { level, spaces }, Asked::Start(other, names)) => {
+            *level == other && are_labels(spaces, names)
+        }
+        (Form::Turn { count }, Asked::Turn(other)) => *count == other,
+        (Form::End, Asked::End) => true,
+        (Form::Cancel, Asked::Cancel) => true,
+        (Form::Archive { level, spaces }, Asked::Archive(other, names)) => {
+            *level == other && are_labels(spaces, names)
+        }
+        (Form::Backup { count }, Asked::Backup(other)) => *count == other,
+        (Form::Switch, Asked::Switch) => true,
+        (Form::Clean { count }, Asked::Clean(other)) => *count == other,
+        (Form::Checkpoint, Asked::Checkpoint) => true,
+        (Form::Restore { space }, Asked::Restore(name)) => is_label(space, name),
+        _ => false,
     }
 }
 
-fn update(rt: &impl Abort, target: Target, bytes: &[u8]) -> Form {
-    Form::Update {
-        target,
-        row: row(rt, bytes),
+const ONE: Actor = Actor::Session(1);
+
+/// The lines of the script of session 1.
+const SESSION_LINES: &[(Actor, Asked)] = &[
+    (ONE, Asked::Begin),
+    (ONE, Asked::Insert(0, b"data1", b"ann")),
+    (ONE, Asked::Insert(9, b"nosuch", b"")),
+    (ONE, Asked::Insert(0, b"a", LONGEST_ROW)),
+    (ONE, Asked::Insert(0, b"a", b"=!~")),
+    (ONE, Asked::Update(Named::Reg(7), b"b")),
+    (ONE, Asked::Update(Named::At(b"data1", 0, 30), b"")),
+    (ONE, Asked::Delete(Named::Reg(0))),
+    (ONE, Asked::Delete(Named::At(b"root", 99999, 99999))),
+    (ONE, Asked::Read(Named::Reg(1))),
+    (ONE, Asked::Read(Named::At(b"r1", 0, 0))),
+    (ONE, Asked::List(b"data1", 0)),
+    (ONE, Asked::List(b"abcdefg9", 99999)),
+    (ONE, Asked::Commit),
+    (ONE, Asked::Rollback),
+];
+
+/// The lines of the script of the other actors.
+const ENGINE_LINES: &[(Actor, Asked)] = &[
+    (Actor::Session(16), Asked::Begin),
+    (Actor::Archiver(1), Asked::Start(0, &[b"root", b"data1"])),
+    (Actor::Archiver(2), Asked::Start(2, &[b"data1"])),
+    (Actor::Archiver(1), Asked::Turn(1)),
+    (Actor::Archiver(4), Asked::Turn(65535)),
+    (Actor::Archiver(1), Asked::End),
+    (Actor::Archiver(1), Asked::Cancel),
+    (Actor::Archiver(4), Asked::Archive(1, &[b"nosuch", b"root"])),
+    (Actor::Backer, Asked::Backup(9)),
+    (Actor::Backer, Asked::Switch),
+    (Actor::Flusher, Asked::Clean(4)),
+    (Actor::Checkpointer, Asked::Checkpoint),
+    (Actor::Warmer, Asked::Restore(b"data1")),
+];
+
+/// The first line of a script that is not as it should be, from 1; None where there is none.
+fn first_other(script: &Script, wanted: &[(Actor, Asked)]) -> Option<usize> {
+    let lines = script.as_slice();
+    if lines.len() != wanted.len() {
+        return Some(lines.len());
     }
-}
-
-/// One or two spaces.
-fn spaces(rt: &impl Abort, first: &[u8], second: Option<&[u8]>) -> Labels {
-    let mut labels = Labels::new();
-    labels.push(label(rt, first));
-    if let Some(second) = second {
-        labels.push(label(rt, second));
+    for (index, (line, (actor, asked))) in lines.iter().zip(wanted).enumerate() {
+        let is_here = usize::from(line.number) == index + 1 && line.actor == *actor;
+        if !is_here || !is_asked(&line.form, *asked) {
+            return Some(index + 1);
+        }
     }
-    labels
-}
-
-fn session_forms(rt: &impl Abort) -> [Form; 15] {
-    [
-        Form::Begin,
-        insert(rt, 0, b"data1", b"ann"),
-        insert(rt, 9, b"nosuch", b""),
-        insert(rt, 0, b"a", LONGEST_ROW),
-        insert(rt, 0, b"a", b"=!~"),
-        update(rt, Target::Reg(7), b"b"),
-        update(rt, at(rt, b"data1", 0, 30), b""),
-        Form::Delete {
-            target: Target::Reg(0),
-        },
-        Form::Delete {
-            target: at(rt, b"root", 99999, 99999),
-        },
-        Form::Read {
-            target: Target::Reg(1),
-        },
-        Form::Read {
-            target: at(rt, b"r1", 0, 0),
-        },
-        list(rt, b"data1", 0),
-        list(rt, b"abcdefg9", 99999),
-        Form::Commit,
-        Form::Rollback,
-    ]
-}
-
-fn engine_forms(rt: &impl Abort) -> [(Actor, Form); 13] {
-    let one = Actor::Archiver(1);
-    let four = Actor::Archiver(4);
-    let both = spaces(rt, b"root", Some(b"data1"));
-    let other = spaces(rt, b"nosuch", Some(b"root"));
-    let data1 = spaces(rt, b"data1", None);
-    let space = label(rt, b"data1");
-    [
-        (Actor::Session(16), Form::Begin),
-        (
-            one,
-            Form::Start {
-                level: 0,
-                spaces: both,
-            },
-        ),
-        (
-            Actor::Archiver(2),
-            Form::Start {
-                level: 2,
-                spaces: data1,
-            },
-        ),
-        (one, Form::Turn { count: 1 }),
-        (four, Form::Turn { count: 65535 }),
-        (one, Form::End),
-        (one, Form::Cancel),
-        (
-            four,
-            Form::Archive {
-                level: 1,
-                spaces: other,
-            },
-        ),
-        (Actor::Backer, Form::Backup { count: 9 }),
-        (Actor::Backer, Form::Switch),
-        (Actor::Flusher, Form::Clean { count: 4 }),
-        (Actor::Checkpointer, Form::Checkpoint),
-        (Actor::Warmer, Form::Restore { space }),
-    ]
+    None
 }
 
 #[test]
 fn lines_are_of_their_forms(rt: HostRuntime) -> Result<(), Fail> {
-    let Ok(script) = parse_text(rt.alloc(), SESSION_SCRIPT) else {
-        panic!(rt; "the script of the session is refused");
-    };
-    let forms = session_forms(&rt);
-    assert_eq!(rt; script.as_slice().len(), forms.len());
-    for (index, (line, form)) in script.as_slice().iter().zip(&forms).enumerate() {
-        assert_eq!(rt; usize::from(line.number), index + 1);
-        assert_eq!(rt; line.actor, Actor::Session(1), "at line {index}");
-        assert_eq!(rt; &line.form, form, "at line {index}");
-    }
-    let Ok(script) = parse_text(rt.alloc(), ENGINE_SCRIPT) else {
-        panic!(rt; "the script of the other actors is refused");
-    };
-    let forms = engine_forms(&rt);
-    assert_eq!(rt; script.as_slice().len(), forms.len());
-    for (index, (line, (actor, form))) in script.as_slice().iter().zip(&forms).enumerate() {
-        assert_eq!(rt; usize::from(line.number), index + 1);
-        assert_eq!(rt; line.actor, *actor, "at line {index}");
-        assert_eq!(rt; &line.form, form, "at line {index}");
+    for (bytes, wanted) in [
+        (SESSION_SCRIPT, SESSION_LINES),
+        (ENGINE_SCRIPT, ENGINE_LINES),
+    ] {
+        let Ok(script) = parse_text(rt.alloc(), bytes) else {
+            panic!(rt; "a script is refused");
+        };
+        assert_eq!(rt; first_other(&script, wanted), None);
     }
     Ok(())
+}
+
+/// The lines of some actors in a script of six lines.
+const NUMBERS: &[(Actor, &[u16])] = &[
+    (Actor::Session(1), &[1, 6]),
+    (Actor::Session(2), &[2, 5]),
+    (Actor::Session(12), &[3]),
+    (Actor::Archiver(1), &[4]),
+    (Actor::Archiver(2), &[]),
+];
+
+/// Whether the lines of an actor have these numbers.
+fn has_numbers(script: &Script, actor: Actor, numbers: &[u16]) -> bool {
+    match script.lines(actor) {
+        Ok(lines) => are_numbers(lines.as_slice(), numbers),
+        Err(_) => false,
+    }
+}
+
+/// Whether lines have these numbers.
+fn are_numbers(lines: &[Line], numbers: &[u16]) -> bool {
+    lines.len() == numbers.len()
+        && lines
+            .iter()
+            .zip(numbers)
+            .all(|(line, number)| line.number == *number)
 }
 
 #[test]
@@ -191,17 +240,8 @@ fn lines_of_an_actor_keep_their_numbers(rt: HostRuntime) -> Result<(), Fail> {
     let Ok(script) = parse_text(rt.alloc(), text) else {
         panic!(rt; "the script is refused");
     };
-    let cases: [(Actor, &[u16]); 5] = [
-        (Actor::Session(1), &[1, 6]),
-        (Actor::Session(2), &[2, 5]),
-        (Actor::Session(12), &[3]),
-        (Actor::Archiver(1), &[4]),
-        (Actor::Archiver(2), &[]),
-    ];
-    for (actor, numbers) in cases {
-        let lines = script.lines(actor)?;
-        let found = lines.as_slice().iter().map(|line| line.number);
-        assert!(rt; found.eq(numbers.iter().copied()), "of {actor:?}");
+    for (actor, numbers) in NUMBERS {
+        assert!(rt; has_numbers(&script, *actor, numbers), "of {actor:?}");
     }
     Ok(())
 }
@@ -224,119 +264,336 @@ fn script_has_65535_lines_at_most(rt: HostRuntime) -> Result<(), Fail> {
     Ok(())
 }
 
-/// Replies with their texts, of the small configuration.
-fn told_replies(rt: &impl Abort) -> [(Reply, &'static str); 51] {
-    let (space, page, slot) = (1, 7, 30);
-    let rid = Rid { space, page, slot };
-    let rows = row(rt, b"a~! \\\x00\x7f\xff");
-    let longest = row(rt, LONGEST_ROW);
-    let (number, cut, pages) = (2, 3, 4);
-    let (uniq, index) = (18446744073709551615, 9);
-    let (drive, volume, block) = (4, 5, 6);
-    [
-        (
-            Reply::Begun {
-                txn: 4611686018427387904,
-            },
-            "begun 4611686018427387904",
-        ),
-        (Reply::At { rid }, "rid data1:7:30"),
-        (Reply::Changed { rid }, "changed data1:7:30"),
-        (Reply::RowIs { row: rows }, "row =a~!\\20\\5c\\00\\7f\\ff"),
-        (
-            Reply::RowIs { row: longest },
-            "row =zzzzzzzzzzzzzzzzzzzzzzzzzzzzzzzzzzzzzzzzzzzzzzzzzzzzzzzzzzzzzzz",
-        ),
-        (Reply::RowIs { row: row(rt, b"") }, "row ="),
-        (Reply::Slots { bits: 0 }, "slots"),
-        (Reply::Slots { bits: 0x4000_0405 }, "slots 0 2 10 30"),
-        (Reply::Committed { position: 3 }, "committed 3"),
-        (Reply::Undone { rid }, "undone data1:7:30"),
-        (Reply::RolledBack { position: 29 }, "rolledback 29"),
-        (Reply::Checkpointed { position: 6 }, "checkpointed 6"),
-        (Reply::Cleaned { space, page }, "cleaned data1:7"),
-        (Reply::NothingDirty, "nothing"),
-        (Reply::Started { number, cut, pages }, "started 2 3 4"),
-        (
-            Reply::PageIs {
-                space: 0,
-                page: 65535,
-            },
-            "page root:65535",
-        ),
-        (Reply::AllTaken, "alltaken"),
-        (Reply::Archived { number, cut, pages }, "archived 2 3 4"),
-        (Reply::Cancelled { number }, "cancelled 2"),
-        (
-            Reply::Picked { uniq, pages },
-            "picked 18446744073709551615 4",
-        ),
-        (
-            Reply::LogPage { uniq, index },
-            "logpage 18446744073709551615 9",
-        ),
-        (Reply::Backed { uniq }, "backed 18446744073709551615"),
-        (Reply::NothingToBack, "nothing"),
-        (Reply::Switched { uniq: 1 }, "switched 1"),
-        (Reply::Warming { space, upto: 18 }, "warming data1 18"),
-        (Reply::WarmLog { first: 12 }, "warmlog 12"),
-        (Reply::Put { page }, "put 7"),
-        (Reply::Up { space }, "up data1"),
-        (Reply::NoTxn, "notxn"),
-        (Reply::TxnOpen, "txnopen"),
-        (Reply::NoRow, "norow"),
-        (Reply::RowLocked { holder: 16 }, "rowlocked 16"),
-        (Reply::SpaceFull { space }, "spacefull data1"),
-        (Reply::SpaceDown { space: 0 }, "spacedown root"),
-        (Reply::NoSpace, "nospace"),
-        (Reply::LogsFull { uniq: 1 }, "logsfull 1"),
-        (Reply::Unbound, "unbound"),
-        (Reply::Archiving { archiver: 4 }, "archiving 4"),
-        (Reply::NoParent { space, level: 0 }, "noparent data1 0"),
-        (Reply::NoArchive, "noarchive"),
-        (Reply::BeforeFull { entry: 8 }, "beforefull 8"),
-        (Reply::PagesLeft { count: 2 }, "pagesleft 2"),
-        (Reply::TapeFault { drive, count: 3 }, "tapefault 4 3"),
-        (Reply::OutOfTape { drive }, "outoftape 4"),
-        (Reply::NotDown { space }, "notdown data1"),
-        (
-            Reply::MissingLevel {
-                space,
-                level: 1,
-                archive: 2,
-            },
-            "missinglevel data1 1 2",
-        ),
-        (Reply::MissingLog { position: 13 }, "missinglog 13"),
-        (
-            Reply::DamagedVolume {
-                drive,
-                volume,
-                block,
-            },
-            "damagedvolume 4 5 6",
-        ),
-        (Reply::ShelfFault { count: 1 }, "shelffault 1"),
-        (Reply::DiskFault { chunk: 31 }, "diskfault 31"),
-        (
-            Reply::BadRead {
-                chunk: 1,
-                page: 70000,
-            },
-            "badread 1 70000",
-        ),
-    ]
-}
+const RID: Rid = Rid {
+    space: 1,
+    page: 7,
+    slot: 30,
+};
 
-/// Requires that an entry of this actor, line and reply has this text.
-fn require_text(
-    rt: &(impl Abort + AllocGlobal),
-    table: &ChunkTable,
-    actor: Actor,
-    line: u16,
-    reply: &Reply,
-    wanted: &str,
-) -> Result<(), Fail> {
+const SESSION: Actor = Actor::Session(1);
+
+/// Actors, line numbers and replies with their texts, of the small configuration.
+const TEXTS: [(Actor, u16, Reply, &str); 56] = [
+    (
+        SESSION,
+        12,
+        Reply::Begun {
+            txn: 4611686018427387904,
+        },
+        "12 s1 begun 4611686018427387904\n",
+    ),
+    (
+        SESSION,
+        12,
+        Reply::At { rid: RID },
+        "12 s1 rid data1:7:30\n",
+    ),
+    (
+        SESSION,
+        12,
+        Reply::Changed { rid: RID },
+        "12 s1 changed data1:7:30\n",
+    ),
+    (SESSION, 12, Reply::Slots { bits: 0 }, "12 s1 slots\n"),
+    (
+        SESSION,
+        12,
+        Reply::Slots { bits: 0x4000_0405 },
+        "12 s1 slots 0 2 10 30\n",
+    ),
+    (
+        SESSION,
+        12,
+        Reply::Committed { position: 3 },
+        "12 s1 committed 3\n",
+    ),
+    (
+        SESSION,
+        12,
+        Reply::Undone { rid: RID },
+        "12 s1 undone data1:7:30\n",
+    ),
+    (
+        SESSION,
+        12,
+        Reply::RolledBack { position: 29 },
+        "12 s1 rolledback 29\n",
+    ),
+    (
+        SESSION,
+        12,
+        Reply::Checkpointed { position: 6 },
+        "12 s1 checkpointed 6\n",
+    ),
+    (
+        SESSION,
+        12,
+        Reply::Cleaned { space: 1, page: 7 },
+        "12 s1 cleaned data1:7\n",
+    ),
+    (SESSION, 12, Reply::NothingDirty, "12 s1 nothing\n"),
+    (
+        SESSION,
+        12,
+        Reply::Started {
+            number: 2,
+            cut: 3,
+            pages: 4,
+        },
+        "12 s1 started 2 3 4\n",
+    ),
+    (
+        SESSION,
+        12,
+        Reply::PageIs {
+            space: 0,
+            page: 65535,
+        },
+        "12 s1 page root:65535\n",
+    ),
+    (SESSION, 12, Reply::AllTaken, "12 s1 alltaken\n"),
+    (
+        SESSION,
+        12,
+        Reply::Archived {
+            number: 2,
+            cut: 3,
+            pages: 4,
+        },
+        "12 s1 archived 2 3 4\n",
+    ),
+    (
+        SESSION,
+        12,
+        Reply::Cancelled { number: 2 },
+        "12 s1 cancelled 2\n",
+    ),
+    (
+        SESSION,
+        12,
+        Reply::Picked {
+            uniq: 18446744073709551615,
+            pages: 4,
+        },
+        "12 s1 picked 18446744073709551615 4\n",
+    ),
+    (
+        SESSION,
+        12,
+        Reply::LogPage {
+            uniq: 18446744073709551615,
+            index: 9,
+        },
+        "12 s1 logpage 18446744073709551615 9\n",
+    ),
+    (
+        SESSION,
+        12,
+        Reply::Backed {
+            uniq: 18446744073709551615,
+        },
+        "12 s1 backed 18446744073709551615\n",
+    ),
+    (SESSION, 12, Reply::NothingToBack, "12 s1 nothing\n"),
+    (
+        SESSION,
+        12,
+        Reply::Switched { uniq: 1 },
+        "12 s1 switched 1\n",
+    ),
+    (
+        SESSION,
+        12,
+        Reply::Warming { space: 1, upto: 18 },
+        "12 s1 warming data1 18\n",
+    ),
+    (
+        SESSION,
+        12,
+        Reply::WarmLog { first: 12 },
+        "12 s1 warmlog 12\n",
+    ),
+    (SESSION, 12, Reply::Put { page: 7 }, "12 s1 put 7\n"),
+    (SESSION, 12, Reply::Up { space: 1 }, "12 s1 up data1\n"),
+    (SESSION, 12, Reply::NoTxn, "12 s1 notxn\n"),
+    (SESSION, 12, Reply::TxnOpen, "12 s1 txnopen\n"),
+    (SESSION, 12, Reply::NoRow, "12 s1 norow\n"),
+    (
+        SESSION,
+        12,
+        Reply::RowLocked { holder: 16 },
+        "12 s1 rowlocked 16\n",
+    ),
+    (
+        SESSION,
+        12,
+        Reply::SpaceFull { space: 1 },
+        "12 s1 spacefull data1\n",
+    ),
+    (
+        SESSION,
+        12,
+        Reply::SpaceDown { space: 0 },
+        "12 s1 spacedown root\n",
+    ),
+    (SESSION, 12, Reply::NoSpace, "12 s1 nospace\n"),
+    (
+        SESSION,
+        12,
+        Reply::LogsFull { uniq: 1 },
+        "12 s1 logsfull 1\n",
+    ),
+    (SESSION, 12, Reply::Unbound, "12 s1 unbound\n"),
+    (
+        SESSION,
+        12,
+        Reply::Archiving { archiver: 4 },
+        "12 s1 archiving 4\n",
+    ),
+    (
+        SESSION,
+        12,
+        Reply::NoParent { space: 1, level: 0 },
+        "12 s1 noparent data1 0\n",
+    ),
+    (SESSION, 12, Reply::NoArchive, "12 s1 noarchive\n"),
+    (
+        SESSION,
+        12,
+        Reply::BeforeFull { entry: 8 },
+        "12 s1 beforefull 8\n",
+    ),
+    (
+        SESSION,
+        12,
+        Reply::PagesLeft { count: 2 },
+        "12 s1 pagesleft 2\n",
+    ),
+    (
+        SESSION,
+        12,
+        Reply::TapeFault { drive: 4, count: 3 },
+        "12 s1 tapefault 4 3\n",
+    ),
+    (
+        SESSION,
+        12,
+        Reply::OutOfTape { drive: 4 },
+        "12 s1 outoftape 4\n",
+    ),
+    (
+        SESSION,
+        12,
+        Reply::NotDown { space: 1 },
+        "12 s1 notdown data1\n",
+    ),
+    (
+        SESSION,
+        12,
+        Reply::MissingLevel {
+            space: 1,
+            level: 1,
+            archive: 2,
+        },
+        "12 s1 missinglevel data1 1 2\n",
+    ),
+    (
+        SESSION,
+        12,
+        Reply::MissingLog { position: 13 },
+        "12 s1 missinglog 13\n",
+    ),
+    (
+        SESSION,
+        12,
+        Reply::DamagedVolume {
+            drive: 4,
+            volume: 5,
+            block: 6,
+        },
+        "12 s1 damagedvolume 4 5 6\n",
+    ),
+    (
+        SESSION,
+        12,
+        Reply::ShelfFault { count: 1 },
+        "12 s1 shelffault 1\n",
+    ),
+    (
+        SESSION,
+        12,
+        Reply::DiskFault { chunk: 31 },
+        "12 s1 diskfault 31\n",
+    ),
+    (
+        SESSION,
+        12,
+        Reply::BadRead {
+            chunk: 1,
+            page: 70000,
+        },
+        "12 s1 badread 1 70000\n",
+    ),
+    (
+        Actor::Session(16),
+        1,
+        Reply::Stopped { entry: 3 },
+        "1 s16 stopped 3\n",
+    ),
+    (
+        Actor::Archiver(4),
+        65535,
+        Reply::Stopped { entry: 3 },
+        "65535 a4 stopped 3\n",
+    ),
+    (
+        Actor::Backer,
+        9,
+        Reply::Stopped { entry: 3 },
+        "9 l1 stopped 3\n",
+    ),
+    (
+        Actor::Flusher,
+        10,
+        Reply::Stopped { entry: 3 },
+        "10 f1 stopped 3\n",
+    ),
+    (
+        Actor::Checkpointer,
+        99,
+        Reply::Stopped { entry: 3 },
+        "99 c1 stopped 3\n",
+    ),
+    (
+        Actor::Warmer,
+        100,
+        Reply::Stopped { entry: 3 },
+        "100 w1 stopped 3\n",
+    ),
+    (
+        Actor::Session(2),
+        4,
+        Reply::JournalFull,
+        "4 s2 journalfull\n",
+    ),
+    (Actor::Session(2), 5, Reply::BadRid, "5 s2 badrid\n"),
+];
+
+/// Rows that were read, with their texts.
+const ROWS: &[(&[u8], &str)] = &[
+    (
+        b"a~! \\\x00\x7f\xff",
+        "12 s1 row =a~!\\20\\5c\\00\\7f\\ff\n",
+    ),
+    (
+        LONGEST_ROW,
+        "12 s1 row =zzzzzzzzzzzzzzzzzzzzzzzzzzzzzzzzzzzzzzzzzzzzzzzzzzzzzzzzzzzzzzz\n",
+    ),
+    (b"", "12 s1 row =\n"),
+];
+
+/// Whether an entry of this actor, line and reply has this text.
+fn is_text(table: &ChunkTable, actor: Actor, line: u16, reply: &Reply, wanted: &str) -> bool {
     let entry = Entry {
         number: 77,
         actor,
@@ -348,12 +605,32 @@ fn require_text(
     };
     let mut told = [0xff; ENTRY_LIMIT];
     let length = text(&entry, table, &mut told);
-    assert_eq!(rt;
-        told.get(..length),
-        Some(wanted.as_bytes()),
-        "the text of {reply:?}"
-    );
-    Ok(())
+    let (front, _) = told.split_at(length);
+    front == wanted.as_bytes()
+}
+
+/// Whether a row that was read has this text.
+fn is_row_text(table: &ChunkTable, bytes: &[u8], wanted: &str) -> bool {
+    match Row::new(bytes) {
+        Some(row) => is_text(table, SESSION, 12, &Reply::RowIs { row }, wanted),
+        None => false,
+    }
+}
+
+/// The first of these entries, from 0, that has another text.
+fn first_other_text(table: &ChunkTable, texts: &[(Actor, u16, Reply, &str)]) -> Option<usize> {
+    for (index, (actor, line, reply, wanted)) in texts.iter().enumerate() {
+        if !is_text(table, *actor, *line, reply, wanted) {
+            return Some(index);
+        }
+    }
+    None
+}
+
+/// The first of all entries that has another text.
+fn first_other_of_all(table: &ChunkTable) -> Option<usize> {
+    let texts = TEXTS;
+    first_other_text(table, &texts)
 }
 
 #[test]
@@ -361,31 +638,9 @@ fn entries_have_their_texts(rt: HostRuntime) -> Result<(), Fail> {
     let Ok(table) = parse_config(rt.alloc(), SMALL_CONFIG.as_bytes()) else {
         panic!(rt; "the configuration is refused");
     };
-    for (reply, wanted) in told_replies(&rt) {
-        let wanted = format!(in rt.alloc(); "12 s1 {wanted}\n")?;
-        require_text(&rt, &table, Actor::Session(1), 12, &reply, wanted.as_str())?;
+    assert_eq!(rt; first_other_of_all(&table), None);
+    for (row, wanted) in ROWS {
+        assert!(rt; is_row_text(&table, row, wanted), "{wanted}");
     }
-    let stopped = Reply::Stopped { entry: 3 };
-    let cases = [
-        (Actor::Session(16), 1, "1 s16 stopped 3\n"),
-        (Actor::Archiver(4), 65535, "65535 a4 stopped 3\n"),
-        (Actor::Backer, 9, "9 l1 stopped 3\n"),
-        (Actor::Flusher, 10, "10 f1 stopped 3\n"),
-        (Actor::Checkpointer, 99, "99 c1 stopped 3\n"),
-        (Actor::Warmer, 100, "100 w1 stopped 3\n"),
-    ];
-    for (actor, line, wanted) in cases {
-        require_text(&rt, &table, actor, line, &stopped, wanted)?;
-    }
-    let full = Reply::JournalFull;
-    require_text(
-        &rt,
-        &table,
-        Actor::Session(2),
-        4,
-        &full,
-        "4 s2 journalfull\n",
-    )?;
-    let bad = Reply::BadRid;
-    require_text(&rt, &table, Actor::Session(2), 5, &bad, "5 s2 badrid\n")
+    Ok(())
 }

@@ -14,7 +14,7 @@ use Rattle.ol_model.specs.ArchiveTurns.{first_space, kept_at, saved_of, spaces_n
 use Rattle.ol_model.specs.Machine.{Archive, Machine, archive_of, archiver_of, config_of}
 use Rattle.ol_turn_laws.proofs.StepLaws.{unless_all}
 
-none_found : (test : ℕ → Bool) (l : List ℕ) → is_some (find test l) ≡ false → All (λ s. test s ≡ false) l
+pub none_found : (test : ℕ → Bool) (l : List ℕ) → is_some (find test l) ≡ false → All (λ s. test s ≡ false) l
 none_found test [] h = All-nil (λ s. test s ≡ false)
 none_found test (s ∷ l) h =
     elim (cases_Bool (test s)) [
@@ -38,7 +38,7 @@ one_free m (t ∷ spaces) s all h =
 abbrev pub IsFree : Machine → Saved → Type 0
 IsFree m v = archiver_of m v.space ≡ None
 
-all_free : (m : Machine) (level : ℕ) (spaces l : List ℕ) → All (λ t. is_some (archiver_of m t) ≡ false) spaces
+pub all_free : (m : Machine) (level : ℕ) (spaces l : List ℕ) → All (λ t. is_some (archiver_of m t) ≡ false) spaces
     → All (IsFree m) (map (λ s. let r : Saved = record { space = s; parent = (kept_at m level s).number; base = (kept_at m level s).cut } in r) (filter (λ s. list_any (λ t. t == s) spaces) l))
 all_free m level spaces [] all = All-nil (IsFree m)
 all_free m level spaces (s ∷ l) all =

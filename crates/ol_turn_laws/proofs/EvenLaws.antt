@@ -95,7 +95,7 @@ take_even m k None = even m
 take_even m k (Some a) = take_unless_even m k a a.broken
 
 -- the known archives of spaces change, and nothing else
-keep_backed : (a : Archive) (l : Lasting) → (keep a l).backed ≡ l.backed
+pub keep_backed : (a : Archive) (l : Lasting) → (keep a l).backed ≡ l.backed
 keep_backed a l = go a.spaces l
   where
     go : (spaces : List Saved) (l : Lasting)

@@ -1,8 +1,12 @@
 -- What turns leave as it was: the work of the engine and its sessions, through the steps that turns are made of.
-use Rattle.std.specs.Prelude.{Bool, List, None, Option, Some, [], false, if◌then◌else◌, is_some, length, nat_lt, not, refl, slice_index_or, slice_set, suc, true, unwrap_or, zero, ℕ, ◌&&◌, ◌++◌, ◌+◌, ◌-◌, ◌<◌, ◌==◌, ◌∷◌, ◌≡◌, ◌≢◌, ◌≤◌}
+use Rattle.std.specs.Prelude.{All, Bool, List, None, Option, Some, [], false, if◌then◌else◌, is_some, length, nat_lt, not, refl, slice_index_or, slice_set, suc, true, unwrap_or, zero, ℕ, ◌&&◌, ◌++◌, ◌+◌, ◌-◌, ◌<◌, ◌==◌, ◌∷◌, ◌≡◌, ◌≢◌, ◌≤◌}
 use Rattle.std.proofs.Common.{ap, arith, ◌∙◌}
 use Rattle.std.proofs.lemmas.List.{get_or-set_other, get_or-set_same}
+use Rattle.std.proofs.lemmas.List.Elements.{All-head, All-tail}
+use Rattle.ol_values.specs.declared.event.Event.{Event}
 use Rattle.ol_values.specs.declared.event.Reply.{Reply}
+use Rattle.ol_values.specs.declared.history.Actor.{Actor}
+use Rattle.ol_values.specs.declared.history.Entry.{Entry}
 use Rattle.ol_values.specs.declared.record.Record.{Record}
 use Rattle.ol_values.specs.declared.record.Rid.{Rid}
 use Rattle.ol_values.specs.declared.event.Reply.TheVariants.{Archiving, LogsFull, NoParent, NothingToBack, SpaceDown, Switched}
@@ -10,11 +14,14 @@ use Rattle.ol_values.specs.declared.event.Why.{Why}
 use Rattle.ol_values.specs.Blocks.{Saved}
 use Rattle.ol_rules.specs.Lasting.{is_up}
 use Rattle.ol_rules.specs.Ring.{Use, blocker, free_after_switch, switched_off, use_numbered}
+use Rattle.ol_rules.specs.Shelf.{Shelf}
 use Rattle.ol_model.specs.Answering.{unless}
 use Rattle.ol_model.specs.ArchiveTurns.{cancel_at, end_at, end_unless, end_with, first_space, keep, kept_at, saved_of, spaces_named, start_at, start_with, started, take_at, take_page, take_unless}
+use Rattle.ol_model.specs.History.{state_after, state_at}
 use Rattle.ol_model.specs.LogTurns.{can_switch, checkpoint_turn, clean_at, copy_at, done_at, pick_at, switch_turn, uncopied_at}
 use Rattle.ol_model.specs.Machine.{Archive, Machine, Picking, Seat, Work, archive_of, archiver_of, config_of, last_of, low_in, no_seat, owed_in, reuse_of, seat_of, with_archive, with_lasting, with_ring, with_seat}
 use Rattle.ol_model.specs.Steps.{before_change, change_row, is_page_in, flush, make_checkpoint, needs_checkpoint, touch}
+use Rattle.ol_model.specs.Turns.{DeviceFault, Given, given_by, comes_first, fault_reply, faulted, number_of, turn, turn_of, turn_unless}
 use Rattle.ol_model.specs.Waiting.{left_of}
 
 -- ---- an answer behind refusals
@@ -180,3 +187,26 @@ switch_rests m =
     ∷ [] in
     unless_keeps (Rests m) m tests (Switched m.log.ring.uniq, with_ring (switched_off after.log.ring) after) (rests m)
     (record { stays = record { fixed = refl; work = refl }; archives = refl })
+
+-- ---- stopped engines and faults
+
+-- what a turn of the table and a stop keep, the turn with its fault keeps
+pub turn_keeps : (P : Machine → Type 0) (shelf : Shelf) (g : Given) (m : Machine) (n : ℕ) (actor : Actor) (event : Event)
+    → P m → P (record m { stopped = Some n }) → P (turn_of shelf g m n (number_of actor) event).1 → P (turn shelf g m n actor event).1
+turn_keeps P shelf g m n actor event here stop after = go m.stopped
+  where
+    by_fault : (f : Option DeviceFault) (r : Reply × Machine) → P r.1 → P (faulted f m n r).1
+    by_fault None r h = h
+    by_fault (Some f) r h = elim (comes_first r.0) as (λ b. P (let a : Reply × Machine = (if b then r else (fault_reply f, record m { stopped = Some n })) in a).1) [ true ↦ h | false ↦ stop ]
+
+    go : (o : Option ℕ) → P (turn_unless o shelf g m n (number_of actor) event).1
+    go (Some entry) = here
+    go None = by_fault g.fault (turn_of shelf g m n (number_of actor) event) after
+
+-- what each turn of a history keeps, the history keeps
+pub history_keeps : (P : Machine → Type 0) (Q : Event → Type 0) (shelf : Shelf) → ((g : Given) (m : Machine) (n : ℕ) (actor : Actor) (event : Event) → Q event → P m → P (turn shelf g m n actor event).1)
+    → (h : List Entry) (m : Machine) → All (λ (e : Entry). Q e.event) h → P m → P (state_at shelf m h)
+history_keeps P Q shelf keeps [] m all p = p
+history_keeps P Q shelf keeps (e ∷ h) m all p =
+    history_keeps P Q shelf keeps h (state_after shelf m e) (All-tail (λ (x : Entry). Q x.event) e h all)
+    (keeps (given_by e.reply) m e.number e.actor e.event (All-head (λ (x : Entry). Q x.event) e h all) p)

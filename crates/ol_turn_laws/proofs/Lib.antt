@@ -9,7 +9,14 @@ pub mod StepLaws
 pub mod LowLaws
 pub mod EvenLaws
 pub mod RoomyLaws
+pub mod SteadyLaws
 pub mod SeatLaws
 pub mod WaitingLaws
 pub mod CaptureLaws
 pub mod ApartLaws
+pub mod SpaceLaws
+pub mod DrawnLaws
+pub mod RegularLaws
+pub mod RegularTurns
+pub mod TableLaws
+pub mod OpenedLaws

@@ -70,12 +70,12 @@ changed_low n place r m order within from =
 
 -- ---- a newly formatted disk
 
-of_equal : {A : Type 0} (n i : ℕ) (x : A) → slice_index_or (replicate n x) i x ≡ x
+pub of_equal : {A : Type 0} (n i : ℕ) (x : A) → slice_index_or (replicate n x) i x ≡ x
 of_equal zero i x = refl
 of_equal (suc n) zero x = refl
 of_equal (suc n) (suc i) x = of_equal n i x
 
-all_blank : (c : Config) (spaces : List ℕ) (i j : ℕ) → slice_index_or (slice_index_or (map (λ s. replicate (data_pages c s) blank) spaces) i []) j blank ≡ blank
+pub all_blank : (c : Config) (spaces : List ℕ) (i j : ℕ) → slice_index_or (slice_index_or (map (λ s. replicate (data_pages c s) blank) spaces) i []) j blank ≡ blank
 all_blank c [] i j = refl
 all_blank c (s ∷ spaces) zero j = of_equal (data_pages c s) j blank
 all_blank c (s ∷ spaces) (suc i) j = all_blank c spaces i j
@@ -84,7 +84,7 @@ blank_row : (c : Config) (rid : Rid) → row_in (formatted c) rid ≡ None
 blank_row c rid =
     ap (λ (p : Page). slice_index_or p.slots rid.slot None) (all_blank c (range_with_len 0 (length c.spaces)) rid.space rid.page) ∙ of_equal 31 rid.slot None
 
-no_txn : (c : Config) (k : ℕ) → (seat_of (formatted c) k).txn ≡ None
+pub no_txn : (c : Config) (k : ℕ) → (seat_of (formatted c) k).txn ≡ None
 no_txn c k = ap (λ (s : Seat). s.txn) (of_equal 16 (k - 1) no_seat)
 
 pub formatted_orderly : (c : Config) → Orderly (formatted c)

@@ -1,5 +1,5 @@
 -- Each turn leaves room for what is owed then, in the log and in the journal.
-use Rattle.std.specs.Prelude.{All, Bool, Err, List, None, Ok, Option, Result, Some, [], false, if◌then◌else◌, is_none, is_some, length, not, option_map, refl, slice_set, true, unwrap_or, ℕ, ◌+◌, ◌∷◌, ◌≡◌, ◌≤◌}
+use Rattle.std.specs.Prelude.{All, Bool, Err, List, None, Ok, Option, Result, Some, [], false, is_none, is_some, length, not, option_map, refl, slice_set, true, unwrap_or, ℕ, ◌+◌, ◌∷◌, ◌≡◌, ◌≤◌}
 use Rattle.std.proofs.Common.{ap, arith, subst, sym, ◌∙◌}
 use Rattle.std.proofs.lemmas.List.Elements.{All-head, All-tail}
 use Rattle.ol_values.specs.declared.event.Event.{Event}
@@ -14,7 +14,7 @@ use Rattle.ol_rules.specs.Ring.{page_of, to_back_up}
 use Rattle.ol_rules.specs.Shelf.{Shelf}
 use Rattle.ol_model.specs.Answering.{no_room}
 use Rattle.ol_model.specs.SessionTurns.{begin_at, change_at, change_turn, commit_at, insert_at, insert_into, insert_turn, rolled_at, target_of, undo_at, undo_turn}
-use Rattle.ol_model.specs.Turns.{DeviceFault, Given, comes_first, fault_reply, faulted, turn, turn_of, turn_unless}
+use Rattle.ol_model.specs.Turns.{Given, turn, turn_of}
 use Rattle.ol_values.specs.declared.event.Reply.TheVariants.{At, Begun, Changed, JournalFull, LogsFull, NoRow, RowLocked, SpaceDown}
 use Rattle.ol_values.specs.declared.history.Actor.{Actor}
 use Rattle.ol_values.specs.Config.{space_named}
@@ -27,6 +27,7 @@ use Rattle.ol_model.specs.Machine.{Machine, Seat, archive_of, config_of, first_f
 use Rattle.ol_model.specs.Steps.{append, change_row, flush, make_checkpoint}
 use Rattle.ol_model.specs.Turns.{number_of}
 use Rattle.ol_turn_laws.proofs.EvenLaws.{cancel_even, clean_even, copy_even, done_even, end_even, list_even, pick_even, read_even, start_even, switch_roomy, take_even, uncopied_even, warm_end_even, warm_even, warm_log_even, warm_put_even}
+use Rattle.ol_turn_laws.proofs.KeptLaws.{turn_keeps}
 use Rattle.ol_turn_laws.proofs.OwedLaws.{after_begin, after_change, after_commit, after_undo}
 use Rattle.ol_turn_laws.proofs.RoomLaws.{value_fits}
 use Rattle.ol_turn_laws.proofs.StepLaws.{After, after_even, append_after, back_roomy, change_after, checkpoint_even, even_roomy, flush_even, forward_roomy, seat_after, unless_all}
@@ -186,18 +187,6 @@ turn_of_roomy shelf g m n k (WarmPut page) h o short = even_roomy m _ (warm_put_
 turn_of_roomy shelf g m n k (WarmEnd known) h o short = even_roomy m _ (warm_end_even shelf m known m.warm) h
 turn_of_roomy shelf g m n k (WarmCancel since why) h o short = record { log = h.log; opened = h.opened; positions = h.positions }
 
-faulted_roomy : (fault : Option DeviceFault) (m : Machine) (n : ℕ) (r : Reply × Machine) → Roomy m → Roomy r.1 → Roomy (faulted fault m n r).1
-faulted_roomy None m n r before after = after
-faulted_roomy (Some f) m n r before after =
-    elim (comes_first r.0) as (λ b. Roomy (let a : Reply × Machine = (if b then r else (fault_reply f, record m { stopped = Some n })) in a).1) [
-      | true ↦ after
-      | false ↦ record { log = before.log; opened = before.opened; positions = before.positions }
-    ]
-
-turn_unless_roomy : (stopped : Option ℕ) (shelf : Shelf) (g : Given) (m : Machine) (n k : ℕ) (event : Event) → Roomy m → Orderly m → HasShortRow event
-    → Roomy (turn_unless stopped shelf g m n k event).1
-turn_unless_roomy (Some entry) shelf g m n k event h o short = h
-turn_unless_roomy None shelf g m n k event h o short = faulted_roomy g.fault m n (turn_of shelf g m n k event) h (turn_of_roomy shelf g m n k event h o short)
-
 pub turn_roomy : (shelf : Shelf) (g : Given) (m : Machine) (n : ℕ) (actor : Actor) (event : Event) → Roomy m → Orderly m → HasShortRow event → Roomy (turn shelf g m n actor event).1
-turn_roomy shelf g m n actor event h o short = turn_unless_roomy m.stopped shelf g m n (number_of actor) event h o short
+turn_roomy shelf g m n actor event h o short =
+    turn_keeps Roomy shelf g m n actor event h (record { log = h.log; opened = h.opened; positions = h.positions }) (turn_of_roomy shelf g m n (number_of actor) event h o short)

@@ -9,12 +9,12 @@ use Rattle.ol_values.specs.declared.record.Rid.{Rid}
 use Rattle.ol_values.specs.declared.row.Row.{Row}
 use Rattle.ol_values.specs.Config.{Config}
 use Rattle.ol_rules.specs.Journal.{row_after, row_at, same_place}
-use Rattle.ol_rules.specs.Sound.{Before, HasRoom, IsNewUndo, IsOne, Meets, Sound, after, afterwards, is_value, start}
+use Rattle.ol_rules.specs.Sound.{Before, HasRoom, IsNewUndo, IsOne, Meets, Sound, SoundFrom, after, afterwards, is_value, start}
 use Rattle.ol_rules.specs.Transactions.{Ascending, Txn, open_at, txn_numbered}
 use Rattle.ol_laws.proofs.Found.{some_is}
 use Rattle.ol_laws.proofs.SoundLaws.{fine, kept_by_all, rows_of, txns_of}
 use Rattle.ol_laws.proofs.TxnLaws.{Gives, all_after}
-use Rattle.ol_turn_laws.specs.Room.{HasValues}
+use Rattle.ol_turn_laws.specs.Room.{HasValues, LeavesShort}
 
 -- ---- what is found
 
@@ -51,7 +51,7 @@ newest_value rid value (p ∷ rest) all is =
     let same : p ≡ q = cc in
     subst (λ (x : Rid × Option Row). is_value x.1 ≡ true) same (All-head (λ (x : Rid × Option Row). is_value x.1 ≡ true) p rest all)
 
-either : (place rid : Rid) (value held : Option Row) → is_value value ≡ true → is_value held ≡ true → is_value (if same_place rid place then value else held) ≡ true
+pub either : (place rid : Rid) (value held : Option Row) → is_value value ≡ true → is_value held ≡ true → is_value (if same_place rid place then value else held) ≡ true
 either place rid value held v h = elim (same_place rid place) as (λ b. is_value (if b then value else held) ≡ true) [ true ↦ v | false ↦ h ]
 
 row_valued : (c : Config) (b : Before) (r : Record) → Valued b → Meets c b r → (place : Rid) → is_value (row_after place (b.row place) r) ≡ true
@@ -88,3 +88,19 @@ sound_pending c journal s = subst (λ (l : List Txn). All HasValues l) (txns_of 
 
 pub sound_ascending : (c : Config) (journal : List Record) → Sound c journal → Ascending (open_at journal)
 sound_ascending c journal s = subst (λ (l : List Txn). Ascending l) (txns_of start journal) (fine c journal s).order.ascending
+
+-- ---- the records themselves
+
+leaves_short : (c : Config) (b : Before) (r : Record) → Valued b → Meets c b r → LeavesShort r
+leaves_short c b (BeginRecord n) v m = tt
+leaves_short c b (Change n rid before after) v m = some_is (txn_numbered n b.txns) m (λ t h. h.value)
+leaves_short c b (Undo n rid value) v m = found_with (IsNewUndo c rid value) HasValues n b.txns v.pending m (λ t h values. newest_value rid value t.pending values h.newest)
+leaves_short c b (CommitRecord n) v m = tt
+leaves_short c b (Rolled n) v m = tt
+
+all_short : (c : Config) (b : Before) (records : List Record) → Valued b → SoundFrom c b records → All LeavesShort records
+all_short c b [] v s = All-nil LeavesShort
+all_short c b (r ∷ records) v s = All-cons LeavesShort r records (leaves_short c b r v s.0) (all_short c (after b r) records (valued_after c b r v s.0 s.1) s.2)
+
+pub sound_records : (c : Config) (journal : List Record) → Sound c journal → All LeavesShort journal
+sound_records c journal s = all_short c start journal (record { rows = λ rid. refl; pending = All-nil HasValues }) s

@@ -1,1 +1,3 @@
+pub mod Apart
 pub mod Room
+pub mod Tables

@@ -2,32 +2,42 @@
 //! contract of a function with an empty body.
 #![tactic(auto)]
 
-ghost use Rattle.std.specs.Prelude.{All, ◌≡◌, ◌≢◌, ◌≤◌, ◌<◌, ◌+◌, ◌-◌, ◌^◌, ◌++◌, ◌∷◌, ◌⊎◌, ◌||◌, List, None, Option, Some, drop, false, filter, if◌then◌else◌, length, nat_lt, true, ℕ, []};
+ghost use Rattle.std.specs.List.{list_any, range_with_len};
+ghost use Rattle.std.specs.Prelude.{All, Bool, ◌≡◌, ◌≢◌, ◌≤◌, ◌<◌, ◌+◌, ◌-◌, ◌^◌, ◌++◌, ◌∷◌, ◌⊎◌, ◌||◌, ◌&&◌, List, None, Option, Some, drop, false, filter, find, if◌then◌else◌, is_none, length, map, nat_lt, not, true, ℕ, []};
 ghost use Rattle.ol_values.specs.declared.event.Event.{Event};
 ghost use Rattle.ol_values.specs.declared.event.Reply.TheVariants.{PageIs};
 ghost use Rattle.ol_values.specs.declared.event.Why.{Why};
 ghost use Rattle.ol_values.specs.declared.history.Actor.{Actor};
 ghost use Rattle.ol_values.specs.declared.history.Actor.TheVariants.{Session};
+ghost use Rattle.ol_values.specs.declared.history.Entry.{Entry};
 ghost use Rattle.ol_values.specs.declared.record.Record.{Record};
 ghost use Rattle.ol_values.specs.declared.record.Record.TheVariants.{Begin, Change, Commit, Rolled, Undo};
 ghost use Rattle.ol_values.specs.declared.record.Rid.{Rid};
 ghost use Rattle.ol_values.specs.declared.row.Row.{Row};
 ghost use Rattle.ol_values.specs.Blocks.{Saved};
-ghost use Rattle.ol_values.specs.Config.{Config, log_pages};
+ghost use Rattle.ol_values.specs.Config.{Config, data_pages, log_pages};
 ghost use Rattle.ol_values.specs.LogPages.{log_room, record_length};
+ghost use Rattle.ol_values.specs.Pages.{blank, rid_of};
+ghost use Rattle.ol_rules.specs.Drawn.{drawn};
 ghost use Rattle.ol_rules.specs.Journal.{row_after, row_at, touches};
+ghost use Rattle.ol_rules.specs.Locks.{Holding, holder_of, holding_of, is_locked as is_locked_in, least_other, owns as owns_in};
 ghost use Rattle.ol_rules.specs.Ring.{Reuse, Ring, Use, flushed, free, free_after_switch, logged, room, switched_off, use_numbered, written};
 ghost use Rattle.ol_rules.specs.Shelf.{Shelf};
 ghost use Rattle.ol_rules.specs.Sound.{HasRoom, Sound, is_value};
-ghost use Rattle.ol_rules.specs.Start.{before_behind};
+ghost use Rattle.ol_rules.specs.Start.{IsStartOf, Start, before_behind, start_page};
 ghost use Rattle.ol_rules.specs.Transactions.{Ascending, BeginsFrom, Txn, open_at, owed, txn_numbered, txns_after};
 ghost use Rattle.ol_model.specs.ArchiveTurns.{cancel_at, end_at, start_at, take_at};
+ghost use Rattle.ol_model.specs.History.{state_at};
 ghost use Rattle.ol_model.specs.LogTurns.{can_switch, checkpoint_turn, clean_at, copy_at, done_at, pick_at, switch_turn, uncopied_at};
-ghost use Rattle.ol_model.specs.Machine.{Archive, Machine, Picking, Seat, archive_of, archiver_of, config_of, formatted, journal_full, last_of, logs_full, low_in, owed_in, reuse_of, row_in, seat_of, stamp_in, txns_in, with_archive, with_seat};
+ghost use Rattle.ol_model.specs.Machine.{Archive, Machine, Picking, Seat, archive_of, archiver_of, config_of, first_free, formatted, holder, is_locked, journal_full, last_of, logs_full, low_in, owed_in, reuse_of, row_in, seat_of, slots_of, stamp_in, txns_in, with_archive, with_seat};
+ghost use Rattle.ol_model.specs.Opening.{Found, opened};
+ghost use Rattle.ol_model.specs.SessionTurns.{page_holder};
 ghost use Rattle.ol_model.specs.Steps.{append, change_row};
 ghost use Rattle.ol_model.specs.Turns.{Given, turn};
 ghost use Rattle.ol_model.specs.Waiting.{images_held, left_of, waiting, waiting_of};
-ghost use Rattle.ol_turn_laws.specs.Room.{HasShortRow, HasValues, Orderly, Roomy};
+ghost use Rattle.ol_turn_laws.specs.Apart.{Apart};
+ghost use Rattle.ol_turn_laws.specs.Tables.{TellsSessions, table_in};
+ghost use Rattle.ol_turn_laws.specs.Room.{HasShortRow, HasValues, HoldsShort, HoldsShortBlocks, HoldsShortRows, IsFoundWell, LeavesShort, Orderly, Regular, Roomy};
 
 /// What ascending open transactions owe after a record: one more after a begin and after a change of one of them, one less
 /// after an undo of one with something pending and after the end of a roll back of one with nothing pending, and after a
@@ -77,11 +87,12 @@ pub fn ring_keeps_what_is_free()
 {}
 
 /// In a sound journal each place holds nothing or a row of at most 63 bytes, and so do the changes of open transactions
-/// that are not taken back; the open transactions ascend.
+/// that are not taken back, and what its records leave in their places; the open transactions ascend.
 pub fn sound_journals_hold_short_rows()
     ensures rows { (c : Config) (journal : List Record) (rid : Rid) → Sound c journal → is_value (row_at journal rid) ≡ true }
     ensures pending { (c : Config) (journal : List Record) → Sound c journal → All HasValues (open_at journal) }
     ensures ascending { (c : Config) (journal : List Record) → Sound c journal → Ascending (open_at journal) }
+    ensures records { (c : Config) (journal : List Record) → Sound c journal → All LeavesShort journal }
 {}
 
 /// After a record is appended, and after a change of a row with its record, the machine has the open transactions, the
@@ -98,12 +109,17 @@ pub fn machine_follows_its_record()
     ensures change_low { (n : ℕ) (place : Rid) (r : Record) (m : Machine) → Ascending (txns_in m) → All (λ (t : Txn). t.number ≤ last_of m) (txns_in m) → BeginsFrom (last_of m + 1) r → low_in m ≤ low_in (change_row n place r m) }
 {}
 
-/// Log and journal have room for what is owed on a newly formatted disk, which is orderly too, and from an orderly state they
-/// keep it through each turn of each actor, whether it answers, refuses or meets a fault. A record that leaves room is sound in what it leaves to be owed.
+/// Log and journal have room for what is owed on a newly formatted disk, which is regular too, and so orderly, and behind an
+/// opening that found all in order. From an orderly state each turn of each actor keeps the room, whether it answers, refuses
+/// or meets a fault; from a regular one it keeps the room and leaves a regular state, where its row and what stands on the shelf
+/// are short, and so does a history. A record that leaves room is sound in what it leaves to be owed.
 pub fn turns_keep_room()
     ensures formatted { (c : Config) → Roomy (formatted c) }
-    ensures orderly { (c : Config) → Orderly (formatted c) }
+    ensures regular { (c : Config) → Regular (formatted c) }
+    ensures opened { (c : Config) (f : Found) → IsFoundWell f → Roomy (opened c f) × Regular (opened c f) }
     ensures turn { (shelf : Shelf) (g : Given) (m : Machine) (n : ℕ) (actor : Actor) (event : Event) → Roomy m → Orderly m → HasShortRow event → Roomy (turn shelf g m n actor event).1 }
+    ensures kept { (shelf : Shelf) (g : Given) (m : Machine) (n : ℕ) (actor : Actor) (event : Event) → HoldsShortRows shelf → HasShortRow event → Roomy m → Regular m → Roomy (turn shelf g m n actor event).1 × Regular (turn shelf g m n actor event).1 }
+    ensures history { (shelf : Shelf) (m : Machine) (h : List Entry) → HoldsShortRows shelf → All (λ (e : Entry). HasShortRow e.event) h → Roomy m → Regular m → Roomy (state_at shelf m h) × Regular (state_at shelf m h) }
     ensures sound { (m : Machine) (r : Record) → 1 ≤ (config_of m).log_files → Roomy (append r m) → HasRoom (config_of m) (before_behind m.work.start m.work.records) r }
 {}
 
@@ -167,4 +183,38 @@ pub fn changes_add_their_page()
 /// An archive starts with spaces that no running archive has.
 pub fn archives_start_apart()
     ensures { (m : Machine) (k level : ℕ) (names : List (List ℕ)) (b : Archive) → k - 1 < length m.archives → archive_of m k ≡ None → archive_of (start_at m k level names None).1 k ≡ Some b → All (λ (v : Saved). archiver_of m v.space ≡ None) b.spaces }
+{}
+
+/// Running archives share no space: none run on a newly formatted disk nor behind an opening, and each turn of each actor,
+/// whether it answers, refuses or meets a fault, keeps them apart, and so does a history.
+pub fn archives_stay_apart()
+    ensures formatted { (c : Config) → Apart (formatted c) }
+    ensures opened { (c : Config) (f : Found) → Apart (opened c f) }
+    ensures turn { (shelf : Shelf) (g : Given) (m : Machine) (n : ℕ) (actor : Actor) (event : Event) → Apart m → Apart (turn shelf g m n actor event).1 }
+    ensures history { (shelf : Shelf) (m : Machine) (h : List Entry) → Apart m → Apart (state_at shelf m h) }
+{}
+
+/// What an opening finds of a sound journal is in order, where its start is that of the journal's first part, and each page that
+/// the start does not take from there is blank.
+pub fn sound_journals_are_found_well()
+    ensures { (c : Config) (up : ℕ → Bool) (journal : List Record) (f : Found) → IsStartOf c up journal f.start → Sound c (journal ++ f.redo) → ((space page : ℕ) → (start_page f.start space page ≡ blank) ⊎ ((up space ≡ true) × (page < data_pages c space))) → IsFoundWell f }
+{}
+
+/// Pages that a warm restore draws hold nothing or rows of at most 63 bytes, where all objects on the shelf and all records on
+/// disk do. The objects do where all blocks do.
+pub fn drawn_pages_hold_short_rows()
+    ensures drawn { (shelf : Shelf) (s : Start) (records : List Record) (end_ space page : ℕ) → HoldsShortRows shelf → All LeavesShort (s.kept ++ records) → HoldsShort (drawn shelf s records end_ space page) }
+    ensures blocks { (shelf : Shelf) → HoldsShortBlocks shelf → HoldsShortRows shelf }
+{}
+
+/// A table that tells what the sessions hold answers as the machine does: the least other session in the way of one that would
+/// own or share a slot, whether a slot is locked, the least empty slot of a page and of a space that carries no lock, and the
+/// least other session that owns a slot of a page. The table of a regular machine's own sessions is such a table.
+pub fn lock_tables_tell_of_sessions()
+    ensures regular { (m : Machine) → Regular m → TellsSessions m (table_in m) }
+    ensures holder { (m : Machine) (table : List (Option Holding)) (k : ℕ) (own : Bool) (rid : Rid) → TellsSessions m table → holder_of table k rid own ≡ holder m k own rid }
+    ensures locked { (m : Machine) (table : List (Option Holding)) (rid : Rid) → TellsSessions m table → is_locked_in table rid ≡ is_locked m rid }
+    ensures page { (m : Machine) (table : List (Option Holding)) (space page : ℕ) → TellsSessions m table → find (λ r. is_none (row_in m r) && not (is_locked_in table r)) (map (rid_of space page) (range_with_len 0 31)) ≡ find (λ r. is_none (row_in m r) && not (is_locked m r)) (map (rid_of space page) (range_with_len 0 31)) }
+    ensures space { (m : Machine) (table : List (Option Holding)) (space : ℕ) → TellsSessions m table → find (λ r. is_none (row_in m r) && not (is_locked_in table r)) (slots_of (config_of m) space) ≡ first_free m space }
+    ensures page_holder { (m : Machine) (table : List (Option Holding)) (k space page : ℕ) → TellsSessions m table → least_other (λ j. list_any (λ rid. owns_in rid (holding_of table j)) (map (rid_of space page) (range_with_len 0 31))) k ≡ page_holder m k space page }
 {}

@@ -5,32 +5,12 @@ ghost use Rattle.std.specs.Prelude.{◌≡◌};
 use crate::{Label, Labels, Rid, Row};
 
 /// A row that a line names: by a register, or by its place. The place need not be there.
-#[derive(Debug, PartialEq, Eq, Drop)]
+#[derive(Clone, Copy)]
 pub enum Target {
     /// Register 0 to 9.
     Reg(u8),
     /// A slot of a page of the space of that name.
     At { space: Label, page: u32, slot: u32 },
-}
-
-impl Target {
-    /// The same target again.
-    pub fn copy(&self) -> Target
-        ensures { result ≡ self.now }
-    {
-        match *self {
-            Target::Reg(reg) => Target::Reg(reg),
-            Target::At {
-                ref space,
-                page,
-                slot,
-            } => Target::At {
-                space: space.copy(),
-                page,
-                slot,
-            },
-        }
-    }
 }
 
 /// Why an archive or the backup of a log file is given up.
@@ -53,7 +33,7 @@ pub struct Known {
 }
 
 /// One turn, with its arguments.
-#[derive(Debug, PartialEq, Eq, Drop)]
+#[derive(Drop)]
 pub enum Event {
     /// A transaction begins.
     Begin,
@@ -109,7 +89,7 @@ pub enum Event {
 
 /// The answer to a turn. Spaces, pages, slots, chunks, drives, volumes, blocks, archivers, entries and positions
 /// are given by their numbers; spaces, pages, slots, chunks and blocks count from 0, all else from 1.
-#[derive(Debug, PartialEq, Eq, Drop)]
+#[derive(Drop)]
 pub enum Reply {
     /// The transaction began, with this number.
     Begun { txn: u64 },

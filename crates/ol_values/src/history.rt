@@ -26,7 +26,7 @@ pub struct By {
 
 /// A turn that was answered. Entries are numbered from 1. `start` and `calls` are the number of the
 /// disk's last call as the turn begins, and as the reply is given.
-#[derive(Debug, PartialEq, Eq, Drop)]
+#[derive(Drop)]
 pub struct Entry {
     pub number: u64,
     pub actor: Actor,
@@ -38,7 +38,7 @@ pub struct Entry {
 }
 
 /// The entries of a history in order, as which contracts see it.
-#[derive(Debug, Drop)]
+#[derive(Drop)]
 pub struct History {
     entries: Vec<Entry>,
 }

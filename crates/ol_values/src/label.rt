@@ -3,6 +3,7 @@
 ghost use Rattle.std.specs.Prelude.{◌≡◌, ◌≤◌, ◌<◌, ◌++◌, ◌∷◌, [], length};
 ghost use Rattle.std.specs.Option.{SomeIff};
 
+use crate::Bytes;
 use std::marker::Model;
 
 /// The most bytes that a label has.
@@ -11,35 +12,22 @@ pub const LABEL_LIMIT: usize = 8;
 /// The most labels that a list of them has.
 pub const NAMES_LIMIT: usize = 16;
 
-/// What fills the places of a list that hold no label.
-const FILLER: Label = Label {
-    count: 1,
-    bytes: [b'.', 0, 0, 0, 0, 0, 0, 0],
-};
-
 /// A label of 1 to 8 bytes, which contracts see as the list of its bytes.
-#[derive(Debug, PartialEq, Eq, Drop)]
+#[derive(Clone, Copy, Debug, PartialEq, Eq)]
 pub struct Label {
-    count: u8,
-    bytes: [u8; LABEL_LIMIT],
+    bytes: Bytes<LABEL_LIMIT>,
 }
 
 impl Model for Label {
-    ghost use Rattle.std.specs.Prelude.{List, ℕ, ◌<◌, length, take};
-    ghost use Rattle.std.proofs.Common.{ap, ◌∙◌};
-    ghost use Rattle.ol_values.specs.Held.{IsHeld, held_in, held_back, length-held};
+    ghost use Rattle.std.specs.Prelude.{List, ℕ, ◌<◌, length};
 
     ghost Value = { List ℕ };
 
-    ghost view = { λ r. take r.count r.bytes };
+    ghost view = { λ r. r.bytes };
 
-    ghost invariant = { λ r. IsHeld 0 8 r.count r.bytes × (0 < r.count) };
+    ghost invariant = { λ r. 0 < length r.bytes };
 
-    ghost inverse = { λ v. record { count = length v; bytes = held_in 0 8 v } };
-
-    ghost inverse_ok = { λ a h.
-        ap (λ (n : ℕ). let r : Inside = record { count = n; bytes = held_in 0 8 (take a.count a.bytes) } in r) (length-held 0 8 a.count a.bytes h.0)
-        ∙ ap (λ (b : List ℕ). let r : Inside = record { count = a.count; bytes = b } in r) (held_back 0 8 a.count a.bytes h.0) };
+    ghost inverse = { λ v. record { bytes = v } };
 }
 
 impl Label {
@@ -47,23 +35,11 @@ impl Label {
     pub fn new(bytes: &[u8]) -> Option<Label>
         ensures { SomeIff result ((0 < length bytes.now) × (length bytes.now ≤ 8)) bytes.now }
     {
-        if bytes.len() == 0 || bytes.len() > LABEL_LIMIT {
+        if bytes.is_empty() {
             return None;
         }
-        let mut held = [0; LABEL_LIMIT];
-        held[..bytes.len()].copy_from_slice(bytes);
-        let count = bytes.len() as u8;
-        Some(Label { count, bytes: held })
-    }
-
-    /// The same label again.
-    pub fn copy(&self) -> Label
-        ensures { result ≡ self.now }
-    {
-        Label {
-            count: self.count,
-            bytes: self.bytes,
-        }
+        let bytes = Bytes::new(bytes)?;
+        Some(Label { bytes })
     }
 
     /// The bytes of the label.
@@ -72,13 +48,22 @@ impl Label {
         ensures some { 0 < length self.now }
         ensures limit { length self.now ≤ 8 }
     {
-        &self.bytes[..self.count as usize]
+        self.bytes.as_slice()
+    }
+}
+
+/// What fills the places of a list that hold no label.
+fn filler() -> Label
+    ensures { result ≡ 46 ∷ [] }
+{
+    Label {
+        bytes: Bytes::one(b'.'),
     }
 }
 
 /// At most 16 labels, which contracts see as a list. They are held in place, so that a list of them
 /// takes no memory.
-#[derive(Debug, PartialEq, Eq, Drop)]
+#[derive(Clone, Copy, Debug, PartialEq, Eq)]
 pub struct Labels {
     count: u8,
     labels: [Label; NAMES_LIMIT],
@@ -109,10 +94,7 @@ impl Labels {
     {
         Labels {
             count: 0,
-            labels: [
-                FILLER, FILLER, FILLER, FILLER, FILLER, FILLER, FILLER, FILLER, FILLER, FILLER,
-                FILLER, FILLER, FILLER, FILLER, FILLER, FILLER,
-            ],
+            labels: [filler(); NAMES_LIMIT],
         }
     }
 
@@ -131,16 +113,5 @@ impl Labels {
         ensures limit { length self.now ≤ 16 }
     {
         &self.labels[..self.count as usize]
-    }
-
-    /// The same labels again.
-    pub fn copy(&self) -> Labels
-        ensures { result ≡ self.now }
-    {
-        let mut labels = Labels::new();
-        for label in self.as_slice() {
-            labels.push(label.copy());
-        }
-        labels
     }
 }

@@ -7,7 +7,7 @@ use std::alloc::Global;
 use std::marker::Model;
 
 /// What a script line asks for. A list of spaces has different names.
-#[derive(Debug, PartialEq, Eq, Drop)]
+#[derive(Drop)]
 pub enum Form {
     /// `begin`
     Begin,
@@ -56,56 +56,38 @@ impl Form {
             Form::Begin => Form::Begin,
             Form::Insert {
                 reg,
-                ref space,
+                space,
                 ref row,
             } => Form::Insert {
                 reg,
-                space: space.copy(),
+                space,
                 row: row.copy(),
             },
-            Form::Update {
-                ref target,
-                ref row,
-            } => Form::Update {
-                target: target.copy(),
+            Form::Update { target, ref row } => Form::Update {
+                target,
                 row: row.copy(),
             },
-            Form::Delete { ref target } => Form::Delete {
-                target: target.copy(),
-            },
-            Form::Read { ref target } => Form::Read {
-                target: target.copy(),
-            },
-            Form::List { ref space, page } => Form::List {
-                space: space.copy(),
-                page,
-            },
+            Form::Delete { target } => Form::Delete { target },
+            Form::Read { target } => Form::Read { target },
+            Form::List { space, page } => Form::List { space, page },
             Form::Commit => Form::Commit,
             Form::Rollback => Form::Rollback,
-            Form::Start { level, ref spaces } => Form::Start {
-                level,
-                spaces: spaces.copy(),
-            },
+            Form::Start { level, spaces } => Form::Start { level, spaces },
             Form::Turn { count } => Form::Turn { count },
             Form::End => Form::End,
             Form::Cancel => Form::Cancel,
-            Form::Archive { level, ref spaces } => Form::Archive {
-                level,
-                spaces: spaces.copy(),
-            },
+            Form::Archive { level, spaces } => Form::Archive { level, spaces },
             Form::Backup { count } => Form::Backup { count },
             Form::Switch => Form::Switch,
             Form::Clean { count } => Form::Clean { count },
             Form::Checkpoint => Form::Checkpoint,
-            Form::Restore { ref space } => Form::Restore {
-                space: space.copy(),
-            },
+            Form::Restore { space } => Form::Restore { space },
         }
     }
 }
 
 /// A script line: its actor, its number in the script from 1, and its form.
-#[derive(Debug, PartialEq, Eq, Drop)]
+#[derive(Drop)]
 pub struct Line {
     pub actor: Actor,
     pub number: u16,
@@ -126,7 +108,7 @@ impl Line {
 }
 
 /// The lines of a script in order, as which contracts see them.
-#[derive(Debug, Drop)]
+#[derive(Drop)]
 pub struct Lines {
     lines: Vec<Line>,
 }

@@ -3,6 +3,7 @@
 ghost use Rattle.std.specs.Prelude.{◌≡◌, ◌≤◌, length};
 ghost use Rattle.std.specs.Option.{SomeIff};
 
+use crate::Bytes;
 use std::marker::Model;
 
 /// The most bytes that a row has.
@@ -11,26 +12,17 @@ pub const ROW_LIMIT: usize = 63;
 /// A row of 0 to 63 bytes, which contracts see as the list of its bytes.
 #[derive(Debug, PartialEq, Eq, Drop)]
 pub struct Row {
-    count: u8,
-    bytes: [u8; ROW_LIMIT],
+    bytes: Bytes<ROW_LIMIT>,
 }
 
 impl Model for Row {
-    ghost use Rattle.std.specs.Prelude.{List, ℕ, length, take};
-    ghost use Rattle.std.proofs.Common.{ap, ◌∙◌};
-    ghost use Rattle.ol_values.specs.Held.{IsHeld, held_in, held_back, length-held};
+    ghost use Rattle.std.specs.Prelude.{List, ℕ};
 
     ghost Value = { List ℕ };
 
-    ghost view = { λ r. take r.count r.bytes };
+    ghost view = { λ r. r.bytes };
 
-    ghost invariant = { λ r. IsHeld 0 63 r.count r.bytes };
-
-    ghost inverse = { λ v. record { count = length v; bytes = held_in 0 63 v } };
-
-    ghost inverse_ok = { λ a h.
-        ap (λ (n : ℕ). let r : Inside = record { count = n; bytes = held_in 0 63 (take a.count a.bytes) } in r) (length-held 0 63 a.count a.bytes h)
-        ∙ ap (λ (b : List ℕ). let r : Inside = record { count = a.count; bytes = b } in r) (held_back 0 63 a.count a.bytes h) };
+    ghost inverse = { λ v. record { bytes = v } };
 }
 
 impl Row {
@@ -38,13 +30,8 @@ impl Row {
     pub fn new(bytes: &[u8]) -> Option<Row>
         ensures { SomeIff result (length bytes.now ≤ 63) bytes.now }
     {
-        if bytes.len() > ROW_LIMIT {
-            return None;
-        }
-        let mut held = [0; ROW_LIMIT];
-        held[..bytes.len()].copy_from_slice(bytes);
-        let count = bytes.len() as u8;
-        Some(Row { count, bytes: held })
+        let bytes = Bytes::new(bytes)?;
+        Some(Row { bytes })
     }
 
     /// The bytes of the row.
@@ -52,17 +39,13 @@ impl Row {
         ensures value { result.now ≡ self.now }
         ensures limit { length self.now ≤ 63 }
     {
-        &self.bytes[..self.count as usize]
+        self.bytes.as_slice()
     }
 
     /// The same row again.
     pub fn copy(&self) -> Row
-        ensures value { result ≡ self.now }
-        ensures limit { length self.now ≤ 63 }
+        ensures { result ≡ self.now }
     {
-        Row {
-            count: self.count,
-            bytes: self.bytes,
-        }
+        Row { bytes: self.bytes }
     }
 }

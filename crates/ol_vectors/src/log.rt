@@ -2,7 +2,7 @@
 
 ghost use Rattle.std.specs.Bool.{OnTrue};
 ghost use Rattle.ol_record.specs.LogPages.{IsBuffer};
-ghost use Rattle.ol_record.specs.Spelling.{KeepsRules};
+ghost use Rattle.ol_values.specs.Spelling.{KeepsRules};
 
 use crate::record::{Words, record_of};
 use crate::short::{Short, page_of};

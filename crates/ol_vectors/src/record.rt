@@ -1,7 +1,7 @@
 //! Log records.
 
 ghost use Rattle.std.specs.Prelude.{IfSome};
-ghost use Rattle.ol_record.specs.Spelling.{KeepsRules};
+ghost use Rattle.ol_values.specs.Spelling.{KeepsRules};
 
 use crate::short::Short;
 use crate::trouble::Trouble;

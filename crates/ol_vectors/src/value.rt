@@ -20,7 +20,6 @@ pub fn tell_label(alloc: Global, bytes: &[u8]) -> Result<String, Trouble> {
     let Some(label) = Label::new(bytes) else {
         return Ok(String::from_str(alloc, "= no label\n")?);
     };
-    let held = label.copy();
-    let held = held.as_slice();
+    let held = label.as_slice();
     Ok(format!(in alloc; "= a label of {}: {}\n", held.len(), Short(held))?)
 }

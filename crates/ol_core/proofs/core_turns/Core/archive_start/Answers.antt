@@ -16,4 +16,4 @@ returns-clause-ok c =
     let b : Running = record { number = c.self.inside.next_archive; cut = c.len-cut.result; low = c.unwrap_or-low.result; spaces = c.in-Some.spaces; passed = 0 } in
     let cut : c.len-cut.result ≡ length c.self.inside.journal.items = search rules in
     let low : c.unwrap_or-low.result ≡ unwrap_or c.self.inside.txn (length c.self.inside.journal.items + 1) = c.unwrap_or-low.ensures ∙ ap (λ (n : ℕ). unwrap_or c.self.inside.txn (n + 1)) cut in
-    takes_start c.self.inside.registers b c.count-pages.result c.self.invariant c.self.view_is c.requires.actor (cc) (sym c.choose.ensures ∙ c.in-Some.is) c.copy.ensures refl cut low refl c.count-pages.ensures.value c.in_ok-answer-3.ensures.ok
+    takes_start c.self.inside.registers b c.count-pages.result c.self.invariant c.self.view_is c.requires.actor (cc) (sym c.choose.ensures ∙ c.in-Some.is) refl refl cut low refl c.count-pages.ensures.value c.in_ok-answer-3.ensures.ok

@@ -13,7 +13,7 @@ use Rattle.ol_core.proofs.core_turns.Core.insert.Goals as goal
 pub returns-then-rows-pages-clause-ok : goal.returns-then-rows-pages-clause-ok
 returns-then-rows-pages-clause-ok c =
     takes_no_room c.self.inside.registers c.in-Some.txn c.args.reg c.in-Some-find.space c.self.invariant c.self.view_is c.requires.actor c.in-Some.is (sym c.find.ensures.value ∙ c.in-Some-find.is)
-    (omega (arith, c.if-rows-pages.true, c.pages.ensures.value, c.rows-rows.ensures)) c.copy.ensures c.copy-2.ensures.value c.in_ok-answer-3.ensures.ok
+    (omega (arith, c.if-rows-pages.true, c.pages.ensures.value, c.rows-rows.ensures)) c.copy.ensures c.in_ok-answer-3.ensures.ok
 
 pub invariant_of-self-in_err-make_room : goal.invariant_of-self-in_err-make_room
 invariant_of-self-in_err-make_room c =
@@ -53,4 +53,4 @@ returns-clause-ok c =
     c.append.ensures ∙ ap (λ (l : List Record). l ++ c.inserted.result ∷ []) c.reserve.ensures.items ∙ ap (λ (r : Record). journal ++ r ∷ []) c.inserted.ensures in
     let room : c.rows-rows.result < data_pages c.self.inside.table space * 31 = omega (arith, c.if-rows-pages.false, c.pages.ensures.value, c.rows-rows.ensures, (c.self.invariant.filled space).room) in
     takes_insert c.self.inside.registers c.in-Some.txn c.args.reg space c.rows-rows.result c.self.invariant c.self.view_is c.requires.actor c.in-Some.is (sym c.find.ensures.value ∙ c.in-Some-find.is) c.rows-rows.ensures room
-    c.copy.ensures c.copy-2.ensures.value c.slot_of-rid.ensures (appended ∙ ap (λ (r : Rid). journal ++ Change c.in-Some.txn r None (Some c.args.row.now) ∷ []) c.slot_of-rid.ensures) c.in_ok-answer-4.ensures.ok
+    c.copy.ensures c.slot_of-rid.ensures (appended ∙ ap (λ (r : Rid). journal ++ Change c.in-Some.txn r None (Some c.args.row.now) ∷ []) c.slot_of-rid.ensures) c.in_ok-answer-4.ensures.ok

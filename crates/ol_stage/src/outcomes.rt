@@ -9,44 +9,43 @@ use std::fmt::Write;
 /// How many bytes of the digest of an output are told.
 const TOLD: usize = 8;
 
-/// What a command left behind: the bytes of its output, its exit status, its history, and the number of the calls of
-/// the disk that changed something and of the reads.
+/// How a command ended.
+#[derive(Drop)]
+pub struct Ended {
+    /// The exit status.
+    pub code: u8,
+    /// The turns.
+    pub history: History,
+    /// How many calls of the disk were writes and syncs.
+    pub writes: u64,
+    /// How many calls of the disk were reads.
+    pub reads: u64,
+}
+
+/// What a command left behind: how it ended, and the bytes of its output.
 #[derive(Drop)]
 pub struct Outcome {
     output: Vec<u8>,
-    code: u8,
-    history: History,
-    writes: u64,
-    reads: u64,
+    ended: Ended,
 }
 
 impl Outcome {
     /// What a command left behind, with a copy of its output.
-    pub fn new(
-        alloc: Global,
-        output: &[u8],
-        code: u8,
-        history: History,
-        writes: u64,
-        reads: u64,
-    ) -> Result<Outcome, Trouble> {
+    pub fn new(alloc: Global, output: &[u8], ended: Ended) -> Result<Outcome, Trouble> {
         Ok(Outcome {
             output: Vec::from_slice(alloc, output)?,
-            code,
-            history,
-            writes,
-            reads,
+            ended,
         })
     }
 
     /// Whether all was done.
     pub fn is_well(&self) -> bool {
-        self.code == 0
+        self.ended.code == 0
     }
 
     /// The turns of the command.
     pub fn history(&self) -> &[Entry] {
-        self.history.as_slice()
+        self.ended.history.as_slice()
     }
 
     /// Tells the output. Behind one that doesn't end in a line feed stand a tilde and a line feed.
@@ -65,13 +64,13 @@ impl Outcome {
 
     /// Tells the exit status.
     pub fn tell_code(&self, told: &mut String) -> Result<(), AllocError> {
-        let code = self.code;
+        let code = self.ended.code;
         write!(told, "= {code}\n")
     }
 
     /// Tells the calls of the disk.
     pub fn tell_calls(&self, told: &mut String) -> Result<(), AllocError> {
-        let (writes, reads) = (self.writes, self.reads);
+        let (writes, reads) = (self.ended.writes, self.ended.reads);
         write!(told, "writes and syncs {writes}, reads {reads}\n")
     }
 

@@ -1,21 +1,10 @@
-//! A disk that fails where it is told to and says what isn't so, and the calls of disks in memory.
+//! A disk that fails where it is told to and says what isn't so.
 
 ghost use Rattle.std.specs.Prelude.{◌≡◌, ◌<◌, ◌≤◌, ◌+◌, ◌-◌, ◌^◌, length, min, slice_index, slice_set};
 ghost use Rattle.ol_outside.specs.Causes.{HasChunkCause, risen};
 
-use crate::trouble::Trouble;
-use ol_outside::{Choice, Disk, Failed, MemoryDisk, PAGE_LENGTH};
-
-/// The greatest number of chunks of a disk.
-pub const CHUNKS: usize = 32;
-
-/// A page that reads as one byte all over.
-#[derive(Clone, Copy)]
-pub struct Spoiled {
-    pub chunk: u8,
-    pub page: u32,
-    pub byte: u8,
-}
+use crate::grounds::{CHUNKS, Spoiled};
+use ol_outside::{Disk, Failed, PAGE_LENGTH};
 
 /// A disk over another one. It tells nothing of its bytes: it says that its chunks have the pages of `sizes`, and some
 /// of its pages are spoiled. A page that the disk beneath lacks reads as zeros, and takes no write.
@@ -174,61 +163,4 @@ fn sync_chunk<D: Disk>(disk: &mut D, chunk: u8) -> Result<(), Failed> {
 fn pass_over<D: Disk>(disk: &mut D, chunk: u8) -> Result<(), Failed> {
     let _ = write_piece(disk, chunk, 0, 0, &[]);
     Err(Failed)
-}
-
-/// Writes a byte into a page.
-///
-/// `NoChunk` and `NoPlace` come where the chunk, or the page or the offset, is not there.
-pub fn put_byte<D: Disk>(
-    disk: &mut D,
-    chunk: u8,
-    page: u32,
-    offset: u16,
-    byte: u8,
-) -> Result<(), Trouble> {
-    if disk.size(chunk) == 0 {
-        return Err(Trouble::NoChunk);
-    }
-    if page >= disk.size(chunk) || usize::from(offset) >= PAGE_LENGTH {
-        return Err(Trouble::NoPlace);
-    }
-    match disk.write_at(chunk, page, offset, &[byte]) {
-        Ok(()) => Ok(()),
-        Err(Failed) => Err(Trouble::Refused),
-    }
-}
-
-/// The bytes of a page, as they read.
-///
-/// `NoPlace` comes where the page is not there.
-pub fn page_of<D: Disk>(disk: &mut D, chunk: u8, page: u32) -> Result<[u8; PAGE_LENGTH], Trouble> {
-    let mut bytes = [0; PAGE_LENGTH];
-    if page >= disk.size(chunk) {
-        return Err(Trouble::NoPlace);
-    }
-    match disk.read(chunk, page, &mut bytes) {
-        Ok(()) => Ok(bytes),
-        Err(Failed) => Err(Trouble::Refused),
-    }
-}
-
-/// The disk that a stop within a call leaves.
-///
-/// `NoCall` comes where the disk had no call of that number.
-pub fn stopped(disk: &MemoryDisk, moment: u64, choice: Choice) -> Result<MemoryDisk, Trouble> {
-    if moment == 0 || moment > disk.calls() || moment == u64::MAX {
-        return Err(Trouble::NoCall);
-    }
-    Ok(disk.left(moment, choice)?)
-}
-
-/// Loses a chunk, which reads as zeros from then on.
-///
-/// `NoChunk` comes where it is not there.
-pub fn lose(disk: &mut MemoryDisk, chunk: u8) -> Result<(), Trouble> {
-    if disk.size(chunk) == 0 {
-        return Err(Trouble::NoChunk);
-    }
-    disk.clear(chunk);
-    Ok(())
 }

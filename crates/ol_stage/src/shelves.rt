@@ -1,9 +1,8 @@
 //! The shelf of the volumes that the drives wrote, which fails where it is told to.
 
-ghost use Rattle.std.specs.Prelude.{◌≡◌, ◌<◌, ◌≤◌, [], length};
+ghost use Rattle.std.specs.Prelude.{◌≡◌, ◌<◌, ◌≤◌, [], length, map};
 ghost use Rattle.std.proofs.Common.{get_or};
 ghost use Rattle.ol_outside.specs.Causes.{Rose, risen};
-ghost use Rattle.ol_scenes.specs.Shapes.{block_counts};
 
 use crate::disks::is_listed;
 use crate::tapes::{Tape, Volume};
@@ -25,12 +24,25 @@ pub struct SceneShelf {
     pub failed_calls: u64,
 }
 
+impl SceneShelf {
+    /// A shelf of tapes of that shape, none of whose calls has been made.
+    pub fn new(tapes: Vec<Tape>, shape: Vec<Vec<u32>>, failing: Vec<u64>) -> SceneShelf {
+        SceneShelf {
+            tapes,
+            shape,
+            failing,
+            asked: 0,
+            failed_calls: 0,
+        }
+    }
+}
+
 impl Shelf for SceneShelf {
     ghost use Rattle.std.specs.Prelude.{[]};
 
     ghost tells = { ⊥ };
 
-    ghost shape = { λ s. block_counts s.shape.items };
+    ghost shape = { λ s. map (λ volumes. volumes.items) s.shape.items };
 
     ghost tapes = { λ _. [] };
 
@@ -94,7 +106,7 @@ fn count_fault(count: &mut u64) -> Failed
 
 /// The numbers of blocks of the volumes of a drive.
 fn volumes_of(shape: &[Vec<u32>], drive: u8) -> &[u32]
-    ensures { result.now ≡ get_or (block_counts shape.now) drive [] }
+    ensures { result.now ≡ get_or (map (λ volumes. volumes.items) shape.now) drive [] }
 {
     match shape.get(drive as usize) {
         Some(volumes) => volumes.as_slice(),
