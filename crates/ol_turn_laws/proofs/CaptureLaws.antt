@@ -1,8 +1,9 @@
 -- What a record does to the pages that wait for an archive: it adds the page that it changes, where that has not passed.
 use Rattle.std.specs.List.{range_with_len}
-use Rattle.std.specs.Prelude.{Bool, List, [], drop, false, filter, flat_map, if◌then◌else◌, length, map, nat_lt, refl, suc, take, true, zero, ℕ, ◌++◌, ◌+◌, ◌-◌, ◌||◌, ◌∷◌, ◌≡◌, ◌≤◌}
+use Rattle.std.specs.Prelude.{Bool, List, [], drop, false, filter, flat_map, if◌then◌else◌, map, nat_lt, refl, true, ℕ, ◌+◌, ◌-◌, ◌||◌, ◌∷◌, ◌≡◌, ◌≤◌}
 use Rattle.std.proofs.Common.{ap, arith, sym, ◌∙◌}
 use Rattle.std.proofs.lemmas.Bool.{lt-ltb}
+use Rattle.std.proofs.lemmas.List.{take-append-le}
 use Rattle.ol_values.specs.declared.record.Record.{Record}
 use Rattle.ol_values.specs.declared.record.Rid.{Rid}
 use Rattle.ol_values.specs.Blocks.{Saved}
@@ -11,9 +12,9 @@ use Rattle.ol_rules.specs.Journal.{stamp_after, touches}
 use Rattle.ol_rules.specs.Start.{Start, last_behind, stamp_behind, start_page, upto}
 use Rattle.ol_laws.proofs.PageLaws.{stamp_from-append}
 use Rattle.ol_model.specs.Machine.{Archive, Fixed, Machine, Work, config_of, last_of, stamp_in}
-use Rattle.ol_model.specs.Steps.{append, before_change, change_row, is_page_in, make_checkpoint, needs_checkpoint, touch}
+use Rattle.ol_model.specs.Steps.{append, before_change, change_row}
 use Rattle.ol_model.specs.Waiting.{left_of, pages_of, waiting}
-use Rattle.ol_turn_laws.proofs.KeptLaws.{before_work}
+use Rattle.ol_turn_laws.proofs.KeptLaws.{before_stays, before_work}
 use Rattle.ol_turn_laws.proofs.WaitingLaws.{same_left}
 
 -- ---- the pages left depend on the records up to the cut
@@ -26,15 +27,10 @@ left_is : (m : Machine) (a : Archive) → left_of m a ≡ left_by (config_of m) 
 unfolding pages_of
 left_is m a = refl
 
-take_front : (k : ℕ) (xs ys : List Record) → k ≤ length xs → take k (xs ++ ys) ≡ take k xs
-take_front zero xs ys le = refl
-take_front (suc k) [] ys le = absurd (omega (arith, le))
-take_front (suc k) (x ∷ xs) ys le = ap (λ (l : List Record). x ∷ l) (take_front k xs ys (omega (arith, le)))
-
 pub left_appended : (r : Record) (m : Machine) (a : Archive) → a.cut ≤ last_of m → left_of (append r m) a ≡ left_of m a
 left_appended r m a cut =
     left_is (append r m) a
-    ∙ ap (λ (l : List Record). left_by (config_of m) m.work.start l a) (take_front (a.cut - m.work.start.last) m.work.records (r ∷ []) (omega (arith, cut)))
+    ∙ ap (λ (l : List Record). left_by (config_of m) m.work.start l a) (take-append-le (a.cut - m.work.start.last) m.work.records (r ∷ []) (omega (arith, cut)))
     ∙ sym (left_is m a)
 
 -- ---- the page of the record has a stamp above the cut
@@ -61,22 +57,9 @@ waiting_appended r m a cut =
 
 -- ---- a change of a row
 
-touch_fixed : (p : ℕ × ℕ) (m : Machine) → (touch p m).fixed ≡ m.fixed
-touch_fixed p m =
-    elim (is_page_in p m.checkpoint.touched) as (λ b. (let t : Machine = (if b then m else record m { checkpoint = record m.checkpoint { touched = m.checkpoint.touched ++ p ∷ [] } }) in t).fixed ≡ m.fixed) [
-      | true ↦ refl
-      | false ↦ refl
-    ]
-
-ready_fixed : (p : ℕ × ℕ) (m : Machine) → (if needs_checkpoint m p then make_checkpoint m else m).fixed ≡ m.fixed
-ready_fixed p m = elim (needs_checkpoint m p) as (λ b. (let t : Machine = (if b then make_checkpoint m else m) in t).fixed ≡ m.fixed) [ true ↦ refl | false ↦ refl ]
-
-before_fixed : (n : ℕ) (p : ℕ × ℕ) (m : Machine) → (before_change n p m).fixed ≡ m.fixed
-before_fixed n p m = touch_fixed p (if needs_checkpoint m p then make_checkpoint m else m) ∙ ready_fixed p m
-
 before_left : (n : ℕ) (p : ℕ × ℕ) (m : Machine) (a : Archive) → left_of (before_change n p m) a ≡ left_of m a
 before_left n p m a =
-    same_left m (before_change n p m) a (ap (λ (f : Fixed). f.config) (before_fixed n p m)) (ap (λ (w : Work). w.start) (before_work n p m)) (ap (λ (w : Work). w.records) (before_work n p m))
+    same_left m (before_change n p m) a (ap (λ (f : Fixed). f.config) (before_stays n p m).fixed) (ap (λ (w : Work). w.start) (before_work n p m)) (ap (λ (w : Work). w.records) (before_work n p m))
 
 before_last : (n : ℕ) (p : ℕ × ℕ) (m : Machine) → last_of (before_change n p m) ≡ last_of m
 before_last n p m = ap (λ (w : Work). last_behind w.start w.records) (before_work n p m)

@@ -1,5 +1,5 @@
 -- What turns leave as it was: the work of the engine and its sessions, through the steps that turns are made of.
-use Rattle.std.specs.Prelude.{All, Bool, List, None, Option, Some, [], false, if◌then◌else◌, is_some, length, nat_lt, not, refl, slice_index_or, slice_set, suc, true, unwrap_or, zero, ℕ, ◌&&◌, ◌++◌, ◌+◌, ◌-◌, ◌<◌, ◌==◌, ◌∷◌, ◌≡◌, ◌≢◌, ◌≤◌}
+use Rattle.std.specs.Prelude.{All, Bool, List, None, Option, Some, [], false, fold, if◌then◌else◌, is_some, length, nat_lt, not, refl, slice_index_or, slice_set, suc, true, unwrap_or, zero, ℕ, ◌&&◌, ◌++◌, ◌+◌, ◌-◌, ◌<◌, ◌==◌, ◌∷◌, ◌≡◌, ◌≢◌, ◌≤◌}
 use Rattle.std.proofs.Common.{ap, arith, ◌∙◌}
 use Rattle.std.proofs.lemmas.List.{get_or-set_other, get_or-set_same}
 use Rattle.std.proofs.lemmas.List.Elements.{All-head, All-tail}
@@ -12,11 +12,11 @@ use Rattle.ol_values.specs.declared.record.Rid.{Rid}
 use Rattle.ol_values.specs.declared.event.Reply.TheVariants.{Archiving, LogsFull, NoParent, NothingToBack, SpaceDown, Switched}
 use Rattle.ol_values.specs.declared.event.Why.{Why}
 use Rattle.ol_values.specs.Blocks.{Saved}
-use Rattle.ol_rules.specs.Lasting.{is_up}
+use Rattle.ol_rules.specs.Lasting.{Kept, Lasting, SpaceState, is_up, space_state, space_up, with_space}
 use Rattle.ol_rules.specs.Ring.{Use, blocker, free_after_switch, switched_off, use_numbered}
 use Rattle.ol_rules.specs.Shelf.{Shelf}
 use Rattle.ol_model.specs.Answering.{unless}
-use Rattle.ol_model.specs.ArchiveTurns.{cancel_at, end_at, end_unless, end_with, first_space, keep, kept_at, saved_of, spaces_named, start_at, start_with, started, take_at, take_page, take_unless}
+use Rattle.ol_model.specs.ArchiveTurns.{cancel_at, end_at, end_unless, end_with, first_space, keep, kept_after, kept_at, saved_of, spaces_named, start_at, start_with, started, take_at, take_page, take_unless}
 use Rattle.ol_model.specs.History.{state_after, state_at}
 use Rattle.ol_model.specs.LogTurns.{can_switch, checkpoint_turn, clean_at, copy_at, done_at, pick_at, switch_turn, uncopied_at}
 use Rattle.ol_model.specs.Machine.{Archive, Machine, Picking, Seat, Work, archive_of, archiver_of, config_of, last_of, low_in, no_seat, owed_in, reuse_of, seat_of, with_archive, with_lasting, with_ring, with_seat}
@@ -31,25 +31,6 @@ pub unless_keeps : (P : Machine → Type 0) (m : Machine) (tests : List (Bool ×
 unless_keeps P m [] answer before after = after
 unless_keeps P m (r ∷ tests) answer before after =
     elim r.0 as (λ b. P (if b then (r.1, m) else unless m tests answer).1) [ true ↦ before | false ↦ unless_keeps P m tests answer before after ]
-
--- ---- changes of rows
-
-touch_work : (p : ℕ × ℕ) (m : Machine) → (touch p m).work ≡ m.work
-touch_work p m =
-    elim (is_page_in p m.checkpoint.touched) as (λ b. (let t : Machine = (if b then m else record m { checkpoint = record m.checkpoint { touched = m.checkpoint.touched ++ p ∷ [] } }) in t).work ≡ m.work) [
-      | true ↦ refl
-      | false ↦ refl
-    ]
-
-ready_work : (p : ℕ × ℕ) (m : Machine) → (if needs_checkpoint m p then make_checkpoint m else m).work ≡ m.work
-ready_work p m = elim (needs_checkpoint m p) as (λ b. (let t : Machine = (if b then make_checkpoint m else m) in t).work ≡ m.work) [ true ↦ refl | false ↦ refl ]
-
--- what a change does before its record leaves the work as it was
-pub before_work : (n : ℕ) (p : ℕ × ℕ) (m : Machine) → (before_change n p m).work ≡ m.work
-before_work n p m = touch_work p (if needs_checkpoint m p then make_checkpoint m else m) ∙ ready_work p m
-
-pub change_sessions : (n : ℕ) (rid : Rid) (r : Record) (m : Machine) → (change_row n rid r m).work.sessions ≡ m.work.sessions
-change_sessions n rid r m = ap (λ (w : Work). w.sessions) (before_work n (rid.space, rid.page) m)
 
 -- ---- entries of a list
 
@@ -75,33 +56,76 @@ no_archive m k = go m.archives (k - 1)
     go (a ∷ l) zero = refl
     go (a ∷ l) (suc i) = go l i
 
--- ---- the turns of archivers and of the log backer leave the work as it was
+-- ---- the work, the incarnation, which spaces are up, and the warm restore stay
 
 pub record Stays (m n : Machine) : Type 0 where
   pub fixed : n.fixed ≡ m.fixed
   pub work : n.work ≡ m.work
+  pub incarnation : n.lasting.incarnation ≡ m.lasting.incarnation
+  pub up : (space : ℕ) → is_up n.lasting space ≡ is_up m.lasting space
+  pub warm : n.warm ≡ m.warm
 
 pub stays : (m : Machine) → Stays m m
-stays m = record { fixed = refl; work = refl }
+stays m = record { fixed = refl; work = refl; incarnation = refl; up = λ space. refl; warm = refl }
 
--- the work stays, and so does the archive of each archiver but archiver k
-pub record Beside (k : ℕ) (m n : Machine) : Type 0 where
-  pub stays : Stays m n
-  pub archives : (j : ℕ) → 1 ≤ j → j ≢ k → archive_of n j ≡ archive_of m j
+-- ---- changes of rows
 
-beside : (k : ℕ) (m : Machine) → Beside k m m
-beside k m = record { stays = stays m; archives = λ j from_j differ. refl }
+pub touch_stays : (p : ℕ × ℕ) (m : Machine) → Stays m (touch p m)
+touch_stays p m =
+    elim (is_page_in p m.checkpoint.touched) as (λ b. Stays m (let t : Machine = (if b then m else record m { checkpoint = record m.checkpoint { touched = m.checkpoint.touched ++ p ∷ [] } }) in t)) [
+      | true ↦ stays m
+      | false ↦ record { fixed = refl; work = refl; incarnation = refl; up = λ space. refl; warm = refl }
+    ]
 
--- a state with another archive of archiver k, where else only the log, the checkpoint or the lasting state changed
-beside_put : (k : ℕ) (m n : Machine) (a : Option Archive) → 1 ≤ k → n.fixed ≡ m.fixed → n.work ≡ m.work → n.archives ≡ m.archives → Beside k m (with_archive k a n)
-beside_put k m n a from_k fixed work archives = record {
-  stays = record { fixed = fixed; work = work };
-  archives = λ j from_j differ. other_archive n k j a from_j from_k differ ∙ ap (λ (l : List (Option Archive)). slice_index_or l (j - 1) None) archives;
+ready_stays : (p : ℕ × ℕ) (m : Machine) → Stays m (if needs_checkpoint m p then make_checkpoint m else m)
+ready_stays p m =
+    elim (needs_checkpoint m p) as (λ b. Stays m (let t : Machine = (if b then make_checkpoint m else m) in t)) [
+      | true ↦ record { fixed = refl; work = refl; incarnation = refl; up = λ space. refl; warm = refl }
+      | false ↦ stays m
+    ]
+
+stays_on : (x y z : Machine) → Stays x y → Stays y z → Stays x z
+stays_on x y z one two = record {
+  fixed = two.fixed ∙ one.fixed;
+  work = two.work ∙ one.work;
+  incarnation = two.incarnation ∙ one.incarnation;
+  up = λ space. two.up space ∙ one.up space;
+  warm = two.warm ∙ one.warm;
 }
 
-start_with_beside : (m : Machine) (k level : ℕ) (spaces : Option (List ℕ)) → 1 ≤ k → Beside k m (start_with m k level spaces).1
-start_with_beside m k level None from_k = beside k m
-start_with_beside m k level (Some spaces) from_k =
+-- what a change does before its record
+pub before_stays : (n : ℕ) (p : ℕ × ℕ) (m : Machine) → Stays m (before_change n p m)
+before_stays n p m =
+    let first : Machine = if needs_checkpoint m p then make_checkpoint m else m in
+    let both = stays_on m first (touch p first) (ready_stays p m) (touch_stays p first) in
+    record { fixed = both.fixed; work = both.work; incarnation = both.incarnation; up = both.up; warm = both.warm }
+
+pub before_work : (n : ℕ) (p : ℕ × ℕ) (m : Machine) → (before_change n p m).work ≡ m.work
+before_work n p m = (before_stays n p m).work
+
+pub change_sessions : (n : ℕ) (rid : Rid) (r : Record) (m : Machine) → (change_row n rid r m).work.sessions ≡ m.work.sessions
+change_sessions n rid r m = ap (λ (w : Work). w.sessions) (before_work n (rid.space, rid.page) m)
+
+-- ---- the turns of archivers and of the log backer
+
+-- all that stays, and so does the archive of each archiver but archiver k
+pub record Beside (k : ℕ) (m n : Machine) : Type 0 where
+  pub stays : Stays m n
+  pub archives : (j : ℕ) → 1 ≤ k → 1 ≤ j → j ≢ k → archive_of n j ≡ archive_of m j
+
+beside : (k : ℕ) (m : Machine) → Beside k m m
+beside k m = record { stays = stays m; archives = λ j from_k from_j differ. refl }
+
+-- a state with another archive of archiver k, where else only the log, the checkpoint or the lasting state changed
+beside_put : (k : ℕ) (m n : Machine) (a : Option Archive) → n.fixed ≡ m.fixed → n.work ≡ m.work → n.lasting.incarnation ≡ m.lasting.incarnation → ((space : ℕ) → is_up n.lasting space ≡ is_up m.lasting space) → n.warm ≡ m.warm → n.archives ≡ m.archives → Beside k m (with_archive k a n)
+beside_put k m n a fixed work incarnation up warm archives = record {
+  stays = record { fixed = fixed; work = work; incarnation = incarnation; up = up; warm = warm };
+  archives = λ j from_k from_j differ. other_archive n k j a from_j from_k differ ∙ ap (λ (l : List (Option Archive)). slice_index_or l (j - 1) None) archives;
+}
+
+start_with_beside : (m : Machine) (k level : ℕ) (spaces : Option (List ℕ)) → Beside k m (start_with m k level spaces).1
+start_with_beside m k level None = beside k m
+start_with_beside m k level (Some spaces) =
     let tests : List (Bool × Reply) =
     first_space (λ s. not (is_up m.lasting s)) SpaceDown spaces
     ∷ first_space (λ s. is_some (archiver_of m s)) (λ s. Archiving (unwrap_or (archiver_of m s) 0)) spaces
@@ -112,39 +136,72 @@ start_with_beside m k level (Some spaces) from_k =
     began : (spaces : List Saved) → Beside k m (started m k level spaces).1
     began spaces =
         let a : Archive = record { number = m.lasting.next_archive; level = level; cut = last_of m; low = low_in m; spaces = spaces; passed = 0; broken = None } in
-        beside_put k m (with_lasting (record m.lasting { next_archive = a.number + 1 }) (make_checkpoint m)) (Some a) from_k refl refl refl
+        beside_put k m (with_lasting (record m.lasting { next_archive = a.number + 1 }) (make_checkpoint m)) (Some a) refl refl refl (λ s. refl) refl refl
 
-pub start_beside : (m : Machine) (k level : ℕ) (names : List (List ℕ)) (a : Option Archive) → 1 ≤ k → Beside k m (start_at m k level names a).1
-start_beside m k level names (Some a) from_k = beside k m
-start_beside m k level names None from_k = start_with_beside m k level (spaces_named (config_of m) names) from_k
+pub start_beside : (m : Machine) (k level : ℕ) (names : List (List ℕ)) (a : Option Archive) → Beside k m (start_at m k level names a).1
+start_beside m k level names (Some a) = beside k m
+start_beside m k level names None = start_with_beside m k level (spaces_named (config_of m) names)
 
-page_beside : (m : Machine) (k : ℕ) (a : Archive) (pages : List (ℕ × ℕ)) → 1 ≤ k → Beside k m (take_page m k a pages).1
-page_beside m k a [] from_k = beside k m
-page_beside m k a (p ∷ rest) from_k = beside_put k m m (Some (record a { passed = a.passed + 1 })) from_k refl refl refl
+page_beside : (m : Machine) (k : ℕ) (a : Archive) (pages : List (ℕ × ℕ)) → Beside k m (take_page m k a pages).1
+page_beside m k a [] = beside k m
+page_beside m k a (p ∷ rest) = beside_put k m m (Some (record a { passed = a.passed + 1 })) refl refl refl (λ s. refl) refl refl
 
-take_unless_beside : (m : Machine) (k : ℕ) (a : Archive) (broken : Option ℕ) → 1 ≤ k → Beside k m (take_unless m k a broken).1
-take_unless_beside m k a (Some entry) from_k = beside_put k m m None from_k refl refl refl
-take_unless_beside m k a None from_k = page_beside m k a (left_of m a) from_k
+take_unless_beside : (m : Machine) (k : ℕ) (a : Archive) (broken : Option ℕ) → Beside k m (take_unless m k a broken).1
+take_unless_beside m k a (Some entry) = beside_put k m m None refl refl refl (λ s. refl) refl refl
+take_unless_beside m k a None = page_beside m k a (left_of m a)
 
-pub take_beside : (m : Machine) (k : ℕ) (a : Option Archive) → 1 ≤ k → Beside k m (take_at m k a).1
-take_beside m k None from_k = beside k m
-take_beside m k (Some a) from_k = take_unless_beside m k a a.broken from_k
+pub take_beside : (m : Machine) (k : ℕ) (a : Option Archive) → Beside k m (take_at m k a).1
+take_beside m k None = beside k m
+take_beside m k (Some a) = take_unless_beside m k a a.broken
 
-end_with_beside : (m : Machine) (k : ℕ) (a : Archive) (left : ℕ) → 1 ≤ k → Beside k m (end_with m k a left).1
-end_with_beside m k a zero from_k = beside_put k m (with_lasting (keep a m.lasting) m) None from_k refl refl refl
-end_with_beside m k a (suc n) from_k = beside k m
+-- an archive that ends makes its spaces known, and changes no more of the lasting state
+keep_incarnation : (a : Archive) (l : Lasting) → (keep a l).incarnation ≡ l.incarnation
+keep_incarnation a l = go a.spaces l
+  where
+    go : (spaces : List Saved) (l : Lasting)
+        → (fold (λ (n : Lasting) (s : Saved). with_space s.space (kept_after a.level (record { number = a.number; cut = a.cut }) (space_state n s.space)) n) l spaces).incarnation ≡ l.incarnation
+    go [] l = refl
+    go (s ∷ spaces) l = go spaces (with_space s.space (kept_after a.level (record { number = a.number; cut = a.cut }) (space_state l s.space)) l)
 
-end_unless_beside : (m : Machine) (k : ℕ) (a : Archive) (broken : Option ℕ) → 1 ≤ k → Beside k m (end_unless m k a broken).1
-end_unless_beside m k a (Some entry) from_k = beside_put k m m None from_k refl refl refl
-end_unless_beside m k a None from_k = end_with_beside m k a (length (left_of m a)) from_k
+kept_up : (level : ℕ) (kept : Kept) (s : SpaceState) → (kept_after level kept s).up ≡ s.up
+kept_up zero kept s = refl
+kept_up (suc zero) kept s = refl
+kept_up (suc (suc level)) kept s = refl
 
-pub end_beside : (m : Machine) (k : ℕ) (a : Option Archive) → 1 ≤ k → Beside k m (end_at m k a).1
-end_beside m k None from_k = beside k m
-end_beside m k (Some a) from_k = end_unless_beside m k a a.broken from_k
+set_up : (l : List SpaceState) (i j : ℕ) (x : SpaceState) → x.up ≡ (slice_index_or l i space_up).up → (slice_index_or (slice_set l i x) j space_up).up ≡ (slice_index_or l j space_up).up
+set_up [] i j x same = refl
+set_up (s ∷ l) zero zero x same = same
+set_up (s ∷ l) zero (suc j) x same = refl
+set_up (s ∷ l) (suc i) zero x same = refl
+set_up (s ∷ l) (suc i) (suc j) x same = set_up l i j x same
 
-pub cancel_beside : (count : ℕ) (m : Machine) (k : ℕ) (why : Why) (a : Option Archive) → 1 ≤ k → Beside k m (cancel_at count m k why a).1
-cancel_beside count m k why None from_k = beside k m
-cancel_beside count m k why (Some a) from_k = beside_put k m m None from_k refl refl refl
+keep_up : (a : Archive) (l : Lasting) (space : ℕ) → is_up (keep a l) space ≡ is_up l space
+keep_up a l space = go a.spaces l
+  where
+    kept : Kept
+    kept = record { number = a.number; cut = a.cut }
+
+    go : (spaces : List Saved) (l : Lasting) → is_up (fold (λ (n : Lasting) (s : Saved). with_space s.space (kept_after a.level kept (space_state n s.space)) n) l spaces) space ≡ is_up l space
+    go [] l = refl
+    go (s ∷ spaces) l =
+        let x : SpaceState = kept_after a.level kept (space_state l s.space) in
+        go spaces (with_space s.space x l) ∙ set_up l.spaces s.space space x (kept_up a.level kept (space_state l s.space))
+
+end_with_beside : (m : Machine) (k : ℕ) (a : Archive) (left : ℕ) → Beside k m (end_with m k a left).1
+end_with_beside m k a zero = beside_put k m (with_lasting (keep a m.lasting) m) None refl refl (keep_incarnation a m.lasting) (keep_up a m.lasting) refl refl
+end_with_beside m k a (suc n) = beside k m
+
+end_unless_beside : (m : Machine) (k : ℕ) (a : Archive) (broken : Option ℕ) → Beside k m (end_unless m k a broken).1
+end_unless_beside m k a (Some entry) = beside_put k m m None refl refl refl (λ s. refl) refl refl
+end_unless_beside m k a None = end_with_beside m k a (length (left_of m a))
+
+pub end_beside : (m : Machine) (k : ℕ) (a : Option Archive) → Beside k m (end_at m k a).1
+end_beside m k None = beside k m
+end_beside m k (Some a) = end_unless_beside m k a a.broken
+
+pub cancel_beside : (count : ℕ) (m : Machine) (k : ℕ) (why : Why) (a : Option Archive) → Beside k m (cancel_at count m k why a).1
+cancel_beside count m k why None = beside k m
+cancel_beside count m k why (Some a) = beside_put k m m None refl refl refl (λ s. refl) refl refl
 
 -- ---- and the archives too
 
@@ -156,27 +213,27 @@ pub rests : (m : Machine) → Rests m m
 rests m = record { stays = stays m; archives = refl }
 
 pub checkpoint_rests : (m : Machine) → Rests m (checkpoint_turn m).1
-checkpoint_rests m = record { stays = record { fixed = refl; work = refl }; archives = refl }
+checkpoint_rests m = record { stays = record { fixed = refl; work = refl; incarnation = refl; up = λ space. refl; warm = refl }; archives = refl }
 
 pub clean_rests : (m : Machine) (p : Option (ℕ × ℕ)) → Rests m (clean_at m p).1
 clean_rests m None = rests m
-clean_rests m (Some p) = record { stays = record { fixed = refl; work = refl }; archives = refl }
+clean_rests m (Some p) = record { stays = record { fixed = refl; work = refl; incarnation = refl; up = λ space. refl; warm = refl }; archives = refl }
 
 pub pick_rests : (m : Machine) (u : Option Use) → Rests m (pick_at m u).1
 pick_rests m None = rests m
-pick_rests m (Some u) = record { stays = record { fixed = refl; work = refl }; archives = refl }
+pick_rests m (Some u) = record { stays = record { fixed = refl; work = refl; incarnation = refl; up = λ space. refl; warm = refl }; archives = refl }
 
 pub copy_rests : (m : Machine) (p : Option Picking) → Rests m (copy_at m p).1
 copy_rests m None = rests m
-copy_rests m (Some p) = record { stays = record { fixed = refl; work = refl }; archives = refl }
+copy_rests m (Some p) = record { stays = record { fixed = refl; work = refl; incarnation = refl; up = λ space. refl; warm = refl }; archives = refl }
 
 pub done_rests : (m : Machine) (p : Option Picking) → Rests m (done_at m p).1
 done_rests m None = rests m
-done_rests m (Some p) = record { stays = record { fixed = refl; work = refl }; archives = refl }
+done_rests m (Some p) = record { stays = record { fixed = refl; work = refl; incarnation = refl; up = λ space. refl; warm = refl }; archives = refl }
 
 pub uncopied_rests : (count : ℕ) (m : Machine) (why : Why) (p : Option Picking) → Rests m (uncopied_at count m why p).1
 uncopied_rests count m why None = rests m
-uncopied_rests count m why (Some p) = record { stays = record { fixed = refl; work = refl }; archives = refl }
+uncopied_rests count m why (Some p) = record { stays = record { fixed = refl; work = refl; incarnation = refl; up = λ space. refl; warm = refl }; archives = refl }
 
 pub switch_rests : (m : Machine) → Rests m (switch_turn m).1
 switch_rests m =
@@ -186,7 +243,7 @@ switch_rests m =
     ∷ (nat_lt (free_after_switch (config_of m) (reuse_of m) m.log.ring) (owed_in m), LogsFull (blocker (config_of m) (reuse_of m) m.log.ring))
     ∷ [] in
     unless_keeps (Rests m) m tests (Switched m.log.ring.uniq, with_ring (switched_off after.log.ring) after) (rests m)
-    (record { stays = record { fixed = refl; work = refl }; archives = refl })
+    (record { stays = record { fixed = refl; work = refl; incarnation = refl; up = λ space. refl; warm = refl }; archives = refl })
 
 -- ---- stopped engines and faults
 

@@ -6,6 +6,7 @@ pub mod SwitchLaws
 pub mod KeptLaws
 pub mod ValueLaws
 pub mod StepLaws
+pub mod KnowsLaws
 pub mod LowLaws
 pub mod EvenLaws
 pub mod RoomyLaws

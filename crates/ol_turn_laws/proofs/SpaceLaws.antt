@@ -26,56 +26,63 @@ use Rattle.ol_model.specs.Steps.{after_change, append, before_change, change_row
 use Rattle.ol_model.specs.Turns.{Given, number_of, turn}
 use Rattle.ol_model.specs.Waiting.{images_held, left_of}
 use Rattle.ol_turn_laws.proofs.ApartLaws.{IsFree, all_free, none_found}
-use Rattle.ol_turn_laws.proofs.KeptLaws.{Rests, history_keeps}
+use Rattle.ol_turn_laws.proofs.KeptLaws.{history_keeps}
 use Rattle.ol_turn_laws.proofs.LowLaws.{of_equal}
 use Rattle.ol_turn_laws.proofs.StepLaws.{unless_all}
-use Rattle.ol_turn_laws.proofs.SteadyLaws.{KeptByArchiver, Steady, turn_steady}
+use Rattle.ol_turn_laws.proofs.SteadyLaws.{KeptByArchiver, Steady, turn_steady, unwarmed}
 use Rattle.ol_turn_laws.specs.Apart.{Apart}
 
 -- ---- no archive takes a space more
 
 -- the archive in a place of the list holds a space
-abbrev Has : List (Option Archive) → ℕ → ℕ → Type 0
+abbrev pub Has : List (Option Archive) → ℕ → ℕ → Type 0
 Has l j space = archives_space space (slice_index_or l j None) ≡ true
 
--- where running archives share no space before, they share none after
-abbrev Keeps : Machine → Machine → Type 0
-Keeps m n = Apart m → Apart n
+-- no archiver's archive takes a space more
+pub record NoMore (m n : Machine) : Type 0 where
+  pub less : (j space : ℕ) → Has n.archives j space → Has m.archives j space
 
--- each archiver's archive holds no space that it did not hold
-no_more : (m n : Machine) → ((j space : ℕ) → Has n.archives j space → Has m.archives j space) → Keeps m n
-no_more m n less = λ apart j k space from_j from_k there_j there_k. apart j k space from_j from_k (less (j - 1) space there_j) (less (k - 1) space there_k)
+-- where running archives share no space before, they share none after
+apart_on : (m n : Machine) → NoMore m n → Apart m → Apart n
+apart_on m n no_more apart = λ j k space from_j from_k there_j there_k. apart j k space from_j from_k (no_more.less (j - 1) space there_j) (no_more.less (k - 1) space there_k)
+
+no_more : (m : Machine) → NoMore m m
+no_more m = record { less = λ j space h. h }
 
 by_archives : (l l' : List (Option Archive)) (j space : ℕ) → l' ≡ l → Has l' j space → Has l j space
 by_archives l l' j space same h = ap (λ (x : List (Option Archive)). archives_space space (slice_index_or x j None)) (sym same) ∙ h
 
-by_rests : (m n : Machine) → Rests m n → Keeps m n
-by_rests m n rests = no_more m n (λ j space h. by_archives m.archives n.archives j space rests.archives h)
+pub same_archives : (m n : Machine) → n.archives ≡ m.archives → NoMore m n
+same_archives m n same = record { less = λ j space h. by_archives m.archives n.archives j space same h }
 
 -- what holds a space after an entry is set: the new archive in its place, or what held it before
-set_has : (l : List (Option Archive)) (i j space : ℕ) (x : Option Archive) → Has (slice_set l i x) j space → ((j ≡ i) × (archives_space space x ≡ true)) ⊎ Has l j space
+pub set_has : (l : List (Option Archive)) (i j space : ℕ) (x : Option Archive) → Has (slice_set l i x) j space → ((j ≡ i) × (archives_space space x ≡ true)) ⊎ Has l j space
 set_has [] i j space x h = inr h
 set_has (a ∷ l) zero zero space x h = inl (refl, h)
 set_has (a ∷ l) zero (suc j) space x h = inr h
 set_has (a ∷ l) (suc i) zero space x h = inr h
 set_has (a ∷ l) (suc i) (suc j) space x h = elim (set_has l i j space x h) [ inl e ↦ inl (ap (λ n. suc n) e.0, e.1) | inr e ↦ inr e ]
 
-put_away : (m n : Machine) (k : ℕ) → n.archives ≡ m.archives → Keeps m (with_archive k None n)
-put_away m n k same = no_more m (with_archive k None n) (λ j space h.
-    elim (set_has n.archives (k - 1) j space None h) [
-      | inl e ↦ absurd (let never : false ≡ true = e.1 in cc)
-      | inr e ↦ by_archives m.archives n.archives j space same e
-    ])
+put_away : (m n : Machine) (k : ℕ) → n.archives ≡ m.archives → NoMore m (with_archive k None n)
+put_away m n k same = record {
+  less = λ j space h.
+      elim (set_has n.archives (k - 1) j space None h) [
+        | inl e ↦ absurd (let never : false ≡ true = e.1 in cc)
+        | inr e ↦ by_archives m.archives n.archives j space same e
+      ];
+}
 
 -- an archive with the spaces of the one in its place
-put_again : (m : Machine) (k : ℕ) (a b : Archive) → archive_of m k ≡ Some a → b.spaces ≡ a.spaces → Keeps m (with_archive k (Some b) m)
-put_again m k a b is same = no_more m (with_archive k (Some b) m) (λ j space h.
-    elim (set_has m.archives (k - 1) j space (Some b) h) [
-      | inl e ↦
-          (let there : archives_space space (Some a) ≡ true = subst (λ (l : List Saved). list_any (λ (s : Saved). s.space == space) l ≡ true) same e.1 in
-          ap (λ (i : ℕ). archives_space space (slice_index_or m.archives i None)) e.0 ∙ ap (λ (o : Option Archive). archives_space space o) is ∙ there)
-      | inr e ↦ e
-    ])
+put_again : (m : Machine) (k : ℕ) (a b : Archive) → archive_of m k ≡ Some a → b.spaces ≡ a.spaces → NoMore m (with_archive k (Some b) m)
+put_again m k a b is same = record {
+  less = λ j space h.
+      elim (set_has m.archives (k - 1) j space (Some b) h) [
+        | inl e ↦
+            (let there : archives_space space (Some a) ≡ true = subst (λ (l : List Saved). list_any (λ (s : Saved). s.space == space) l ≡ true) same e.1 in
+            ap (λ (i : ℕ). archives_space space (slice_index_or m.archives i None)) e.0 ∙ ap (λ (o : Option Archive). archives_space space o) is ∙ there)
+        | inr e ↦ e
+      ];
+}
 
 -- ---- changes of rows
 
@@ -92,11 +99,11 @@ changed_has m n p [] j space h = h
 changed_has m n p (a ∷ l) zero space h = sym (changed_space m n p space a) ∙ h
 changed_has m n p (a ∷ l) (suc j) space h = changed_has m n p l j space h
 
-before_apart : (m : Machine) (n : ℕ) (p : ℕ × ℕ) → Keeps m (before_change n p m)
-before_apart m n p = no_more m (before_change n p m) (λ j space h. changed_has m n p m.archives j space h)
+pub before_no_more : (m : Machine) (n : ℕ) (p : ℕ × ℕ) → NoMore m (before_change n p m)
+before_no_more m n p = record { less = λ j space h. changed_has m n p m.archives j space h }
 
-row_apart : (m : Machine) (n : ℕ) (rid : Rid) (r : Record) → Keeps m (change_row n rid r m)
-row_apart m n rid r = before_apart m n (rid.space, rid.page)
+pub row_no_more : (m : Machine) (n : ℕ) (rid : Rid) (r : Record) → NoMore m (change_row n rid r m)
+row_no_more m n rid r = record { less = λ j space h. (before_no_more m n (rid.space, rid.page)).less j space h }
 
 -- ---- an archive that starts
 
@@ -162,57 +169,56 @@ start_apart m k level names None apart = start_with_apart m k level (spaces_name
 
 -- ---- the other turns of archivers
 
-page_apart : (m : Machine) (k : ℕ) (a : Archive) (pages : List (ℕ × ℕ)) → archive_of m k ≡ Some a → Keeps m (take_page m k a pages).1
-page_apart m k a [] is = λ apart. apart
-page_apart m k a (p ∷ rest) is = put_again m k a (record a { passed = a.passed + 1 }) is refl
+page_no_more : (m : Machine) (k : ℕ) (a : Archive) (pages : List (ℕ × ℕ)) → archive_of m k ≡ Some a → NoMore m (take_page m k a pages).1
+page_no_more m k a [] is = no_more m
+page_no_more m k a (p ∷ rest) is = put_again m k a (record a { passed = a.passed + 1 }) is refl
 
-take_unless_apart : (m : Machine) (k : ℕ) (a : Archive) (broken : Option ℕ) → archive_of m k ≡ Some a → Keeps m (take_unless m k a broken).1
-take_unless_apart m k a (Some entry) is = put_away m m k refl
-take_unless_apart m k a None is = page_apart m k a (left_of m a) is
+take_unless_no_more : (m : Machine) (k : ℕ) (a : Archive) (broken : Option ℕ) → archive_of m k ≡ Some a → NoMore m (take_unless m k a broken).1
+take_unless_no_more m k a (Some entry) is = put_away m m k refl
+take_unless_no_more m k a None is = page_no_more m k a (left_of m a) is
 
-take_apart : (m : Machine) (k : ℕ) (a : Option Archive) → archive_of m k ≡ a → Keeps m (take_at m k a).1
-take_apart m k None is = λ apart. apart
-take_apart m k (Some a) is = take_unless_apart m k a a.broken is
+pub take_no_more : (m : Machine) (k : ℕ) (a : Option Archive) → archive_of m k ≡ a → NoMore m (take_at m k a).1
+take_no_more m k None is = no_more m
+take_no_more m k (Some a) is = take_unless_no_more m k a a.broken is
 
-end_with_apart : (m : Machine) (k : ℕ) (a : Archive) (left : ℕ) → Keeps m (end_with m k a left).1
-end_with_apart m k a zero = put_away m (with_lasting (keep a m.lasting) m) k refl
-end_with_apart m k a (suc n) = λ apart. apart
+end_with_no_more : (m : Machine) (k : ℕ) (a : Archive) (left : ℕ) → NoMore m (end_with m k a left).1
+end_with_no_more m k a zero = put_away m (with_lasting (keep a m.lasting) m) k refl
+end_with_no_more m k a (suc n) = no_more m
 
-end_unless_apart : (m : Machine) (k : ℕ) (a : Archive) (broken : Option ℕ) → Keeps m (end_unless m k a broken).1
-end_unless_apart m k a (Some entry) = put_away m m k refl
-end_unless_apart m k a None = end_with_apart m k a (length (left_of m a))
+end_unless_no_more : (m : Machine) (k : ℕ) (a : Archive) (broken : Option ℕ) → NoMore m (end_unless m k a broken).1
+end_unless_no_more m k a (Some entry) = put_away m m k refl
+end_unless_no_more m k a None = end_with_no_more m k a (length (left_of m a))
 
-end_apart : (m : Machine) (k : ℕ) (a : Option Archive) → Keeps m (end_at m k a).1
-end_apart m k None = λ apart. apart
-end_apart m k (Some a) = end_unless_apart m k a a.broken
+pub end_no_more : (m : Machine) (k : ℕ) (a : Option Archive) → NoMore m (end_at m k a).1
+end_no_more m k None = no_more m
+end_no_more m k (Some a) = end_unless_no_more m k a a.broken
 
-cancel_apart : (count : ℕ) (m : Machine) (k : ℕ) (why : Why) (a : Option Archive) → Keeps m (cancel_at count m k why a).1
-cancel_apart count m k why None = λ apart. apart
-cancel_apart count m k why (Some a) = put_away m m k refl
+pub cancel_no_more : (count : ℕ) (m : Machine) (k : ℕ) (why : Why) (a : Option Archive) → NoMore m (cancel_at count m k why a).1
+cancel_no_more count m k why None = no_more m
+cancel_no_more count m k why (Some a) = put_away m m k refl
 
 -- ---- the turns
 
 pub turn_apart : (shelf : Shelf) (g : Given) (m : Machine) (n : ℕ) (actor : Actor) (event : Event) → Apart m → Apart (turn shelf g m n actor event).1
-turn_apart shelf g m n actor event apart = turn_steady Apart shelf g m n actor event steps by_archiver apart
+turn_apart shelf g m n actor event apart = turn_steady Apart shelf g m n actor event steps by_archiver (unwarmed Apart shelf m (λ x y fixed work incarnation archives h. apart_on x y (same_archives x y archives) h) (λ w of. apart) apart) apart
   where
     k : ℕ
     k = number_of actor
 
     steps : Steady Apart k
     steps = record {
-      rests = by_rests;
+      rests = λ a b rests h. apart_on a b (same_archives a b rests.archives) h;
       seat = λ s a h. h;
       add = λ r a h. h;
-      row = λ i rid r a h. row_apart a i rid r h;
-      pages = λ space pages a h. h;
+      row = λ i rid r a h. apart_on a (change_row i rid r a) (row_no_more a i rid r) h;
     }
 
     by_archiver : KeptByArchiver Apart m k
     by_archiver = record {
       start = λ level names. start_apart m k level names (archive_of m k) apart;
-      take = take_apart m k (archive_of m k) refl apart;
-      finish = end_apart m k (archive_of m k) apart;
-      cancel = λ count why. cancel_apart count m k why (archive_of m k) apart;
+      take = apart_on m (take_at m k (archive_of m k)).1 (take_no_more m k (archive_of m k) refl) apart;
+      finish = apart_on m (end_at m k (archive_of m k)).1 (end_no_more m k (archive_of m k)) apart;
+      cancel = λ count why. apart_on m (cancel_at count m k why (archive_of m k)).1 (cancel_no_more count m k why (archive_of m k)) apart;
     }
 
 pub history_apart : (shelf : Shelf) (m : Machine) (h : List Entry) → Apart m → Apart (state_at shelf m h)
@@ -235,34 +241,35 @@ touched p m =
     ] in
     first ∙ elim (needs_checkpoint m p) as (λ b. (let t : Machine = (if b then emptied else m) in t).archives ≡ m.archives) [ true ↦ refl | false ↦ refl ]
 
-redone : (up : Bool) (p : ℕ × ℕ) (m : Machine) → Keeps m (if up then touch_or_empty p m else m)
-redone true p m = no_more m (touch_or_empty p m) (λ j space h. by_archives m.archives (touch_or_empty p m).archives j space (touched p m) h)
-redone false p m = λ apart. apart
+redone : (up : Bool) (p : ℕ × ℕ) (m : Machine) → NoMore m (if up then touch_or_empty p m else m)
+redone true p m = same_archives m (touch_or_empty p m) (touched p m)
+redone false p m = no_more m
 
-redo_apart : (m : Machine) (r : Record) → Keeps m (redo_step m r)
-redo_apart m (BeginRecord n) = λ apart. apart
-redo_apart m (Change n rid before after) = redone (is_up m.lasting rid.space) (rid.space, rid.page) m
-redo_apart m (Undo n rid value) = redone (is_up m.lasting rid.space) (rid.space, rid.page) m
-redo_apart m (CommitRecord n) = λ apart. apart
-redo_apart m (Rolled n) = λ apart. apart
+pub redo_no_more : (m : Machine) (r : Record) → NoMore m (redo_step m r)
+redo_no_more m (BeginRecord n) = no_more m
+redo_no_more m (Change n rid before after) = redone (is_up m.lasting rid.space) (rid.space, rid.page) m
+redo_no_more m (Undo n rid value) = redone (is_up m.lasting rid.space) (rid.space, rid.page) m
+redo_no_more m (CommitRecord n) = no_more m
+redo_no_more m (Rolled n) = no_more m
 
-undone : (up : Bool) (p : ℕ × ℕ) (r : Record) (m : Machine) → Keeps m (append r (if up then before_change 0 p m else m))
-undone true p r m = before_apart m 0 p
-undone false p r m = λ apart. apart
+undone : (up : Bool) (p : ℕ × ℕ) (r : Record) (m : Machine) → NoMore m (append r (if up then before_change 0 p m else m))
+undone true p r m = record { less = λ j space h. (before_no_more m 0 p).less j space h }
+undone false p r m = record { less = λ j space h. h }
 
-undo_step_apart : (m : Machine) (r : Record) → Keeps m (undo_step m r)
-undo_step_apart m (BeginRecord n) = λ apart. apart
-undo_step_apart m (Change n rid before after) = λ apart. apart
-undo_step_apart m (Undo n rid value) = undone (is_up m.lasting rid.space) (rid.space, rid.page) (Undo n rid value) m
-undo_step_apart m (CommitRecord n) = λ apart. apart
-undo_step_apart m (Rolled n) = λ apart. apart
+pub undo_no_more : (m : Machine) (r : Record) → NoMore m (undo_step m r)
+undo_no_more m (BeginRecord n) = record { less = λ j space h. h }
+undo_no_more m (Change n rid before after) = record { less = λ j space h. h }
+undo_no_more m (Undo n rid value) = undone (is_up m.lasting rid.space) (rid.space, rid.page) (Undo n rid value) m
+undo_no_more m (CommitRecord n) = record { less = λ j space h. h }
+undo_no_more m (Rolled n) = record { less = λ j space h. h }
 
-all_apart : (step : Machine → Record → Machine) → ((m : Machine) (r : Record) → Keeps m (step m r)) → (records : List Record) (m : Machine) → Keeps m (fold step m records)
-all_apart step less [] m = λ apart. apart
-all_apart step less (r ∷ records) m = λ apart. all_apart step less records (step m r) (less m r apart)
+all_no_more : (step : Machine → Record → Machine) → ((m : Machine) (r : Record) → NoMore m (step m r)) → (records : List Record) (m : Machine) → NoMore m (fold step m records)
+all_no_more step less [] m = no_more m
+all_no_more step less (r ∷ records) m = record { less = λ j space h. (less m r).less j space ((all_no_more step less records (step m r)).less j space h) }
 
 pub opened_apart : (c : Config) (f : Found) → Apart (opened c f)
 unfolding opened
 opened_apart c f =
     let m : Machine = with_downs f.downs (found c f) in
-    all_apart undo_step undo_step_apart (due_back m) (fold redo_step m f.redo) (all_apart redo_step redo_apart f.redo m (formatted_apart c))
+    let n : Machine = fold redo_step m f.redo in
+    apart_on n (fold undo_step n (due_back m)) (all_no_more undo_step undo_no_more (due_back m) n) (apart_on m n (all_no_more redo_step redo_no_more f.redo m) (formatted_apart c))

@@ -13,7 +13,6 @@ use Rattle.ol_values.specs.declared.record.Record.TheVariants.{Begin as BeginRec
 use Rattle.ol_values.specs.declared.record.Rid.{Rid}
 use Rattle.ol_values.specs.declared.row.Row.{Row}
 use Rattle.ol_values.specs.Config.{has_page, space_named}
-use Rattle.ol_values.specs.Pages.{Page}
 use Rattle.ol_rules.specs.Lasting.{is_up, space_state}
 use Rattle.ol_rules.specs.Ring.{LogRange, page_of, to_back_up}
 use Rattle.ol_rules.specs.Shelf.{Shelf}
@@ -25,7 +24,7 @@ use Rattle.ol_model.specs.SessionTurns.{begin_at, change_at, change_turn, commit
 use Rattle.ol_model.specs.Steps.{append, change_row, flush, make_checkpoint}
 use Rattle.ol_model.specs.Turns.{Given, number_of, turn, turn_of}
 use Rattle.ol_model.specs.WarmTurns.{pages_drawn, warm_at, warm_end_at, warm_log_at, warm_put_at, with_pages}
-use Rattle.ol_turn_laws.proofs.KeptLaws.{Rests, checkpoint_rests, clean_rests, copy_rests, done_rests, pick_rests, switch_rests, turn_keeps, uncopied_rests, unless_keeps}
+use Rattle.ol_turn_laws.proofs.KeptLaws.{Rests, Stays, checkpoint_rests, clean_rests, copy_rests, done_rests, pick_rests, switch_rests, turn_keeps, uncopied_rests, unless_keeps}
 
 -- what depends on work and archives alone, and is kept by each step of a turn of this number
 pub record Steady (P : Machine → Type 0) (k : ℕ) : Type 0 where
@@ -33,11 +32,13 @@ pub record Steady (P : Machine → Type 0) (k : ℕ) : Type 0 where
   pub seat : (s : Seat) (m : Machine) → P m → P (with_seat k s m)
   pub add : (r : Record) (m : Machine) → P m → P (append r m)
   pub row : (n : ℕ) (rid : Rid) (r : Record) (m : Machine) → P m → P (change_row n rid r m)
-  pub pages : (space : ℕ) (pages : List Page) (m : Machine) → P m → P (with_pages space pages m)
 
--- states of one work and the same archives
-same : (P : Machine → Type 0) (k : ℕ) → Steady P k → (m n : Machine) → n.fixed ≡ m.fixed → n.work ≡ m.work → n.archives ≡ m.archives → P m → P n
-same P k st m n fixed work archives h = st.rests m n (record { stays = record { fixed = fixed; work = work }; archives = archives }) h
+-- a state of which only the log, the checkpoint or the lasting state's other parts changed
+same : (P : Machine → Type 0) (k : ℕ) → Steady P k → (m n : Machine) → Stays m n → n.archives ≡ m.archives → P m → P n
+same P k st m n stays archives h = st.rests m n (record { stays = stays; archives = archives }) h
+
+flushed : (m : Machine) → Stays m (flush m)
+flushed m = record { fixed = refl; work = refl; incarnation = refl; up = λ space. refl; warm = refl }
 
 -- ---- the turns of sessions
 
@@ -111,7 +112,7 @@ commit_steady : (P : Machine → Type 0) (k : ℕ) → Steady P k → (m : Machi
 commit_steady P k st m s None h = h
 commit_steady P k st m s (Some txn) h =
     let n = append (CommitRecord txn) m in
-    st.seat (record s { txn = None; shares = [] }) (flush n) (same P k st n (flush n) refl refl refl (st.add (CommitRecord txn) m h))
+    st.seat (record s { txn = None; shares = [] }) (flush n) (same P k st n (flush n) (flushed n) refl (st.add (CommitRecord txn) m h))
 
 rolled_steady : (P : Machine → Type 0) (k : ℕ) → Steady P k → (m : Machine) (s : Seat) (txn : Option ℕ) → P m → P (rolled_at m k s txn).1
 rolled_steady P k st m s None h = h
@@ -127,25 +128,45 @@ undo_steady P k st m n (Some txn) h = go (pending_at m k)
 
 -- ---- the turns of the warm restorer
 
-warm_steady : (P : Machine → Type 0) (k : ℕ) → Steady P k → (m : Machine) (space : Option ℕ) → P m → P (warm_at m space).1
-warm_steady P k st m None h = h
-warm_steady P k st m (Some space) h =
-    let n : Machine = record m { warm = Some (record { space = space; put = 0 }) } in
-    unless_keeps P m ((is_up m.lasting space, NotDown space) ∷ []) (WarmingUpTo space (space_state m.lasting space).down_at, n) h (same P k st m n refl refl refl h)
+-- they keep it, and so does giving up
+pub record KeptByRestorer (P : Machine → Type 0) (shelf : Shelf) (m : Machine) : Type 0 where
+  pub start : (space : Option ℕ) → P (warm_at m space).1
+  pub read : (position : ℕ) (p : Option LogRange) → P (warm_log_at m position p).1
+  pub put : (page : ℕ) → P (warm_put_at m page m.warm).1
+  pub finish : (known : Known) → P (warm_end_at shelf m known m.warm).1
+  pub cancel : P (record m { warm = None })
 
-log_steady : (P : Machine → Type 0) (k : ℕ) → Steady P k → (m : Machine) (position : ℕ) (p : Option LogRange) → P m → P (warm_log_at m position p).1
-log_steady P k st m position None h = same P k st m (record m { warm = None }) refl refl refl h
-log_steady P k st m position (Some p) h = h
+-- what depends on neither the restore under way nor which spaces are up is kept, where other pages of the space that comes up keep it
+pub unwarmed : (P : Machine → Type 0) (shelf : Shelf) (m : Machine) → ((x y : Machine) → y.fixed ≡ x.fixed → y.work ≡ x.work → y.lasting.incarnation ≡ x.lasting.incarnation → y.archives ≡ x.archives → P x → P y)
+    → ((w : Warming) → m.warm ≡ Some w → P (with_pages w.space (pages_drawn shelf m w.space) m)) → P m → KeptByRestorer P shelf m
+unwarmed P shelf m free pages here = record {
+  start = started;
+  read = read;
+  put = λ page. put page m.warm;
+  finish = λ known. finish known m.warm refl;
+  cancel = warmed None;
+}
+  where
+    warmed : (w : Option Warming) → P (record m { warm = w })
+    warmed w = free m (record m { warm = w }) refl refl refl refl here
 
-put_steady : (P : Machine → Type 0) (k : ℕ) → Steady P k → (m : Machine) (page : ℕ) (w : Option Warming) → P m → P (warm_put_at m page w).1
-put_steady P k st m page None h = h
-put_steady P k st m page (Some w) h = same P k st m (record m { warm = Some (record w { put = w.put + 1 }) }) refl refl refl h
+    started : (space : Option ℕ) → P (warm_at m space).1
+    started None = here
+    started (Some space) =
+        let n : Machine = record m { warm = Some (record { space = space; put = 0 }) } in
+        unless_keeps P m ((is_up m.lasting space, NotDown space) ∷ []) (WarmingUpTo space (space_state m.lasting space).down_at, n) here (free m n refl refl refl refl here)
 
-warm_end_steady : (P : Machine → Type 0) (k : ℕ) → Steady P k → (shelf : Shelf) (m : Machine) (known : Known) (w : Option Warming) → P m → P (warm_end_at shelf m known w).1
-warm_end_steady P k st shelf m known None h = h
-warm_end_steady P k st shelf m known (Some w) h =
-    let n = with_pages w.space (pages_drawn shelf m w.space) m in
-    same P k st n (warm_end_at shelf m known (Some w)).1 refl refl refl (st.pages w.space (pages_drawn shelf m w.space) m h)
+    read : (position : ℕ) (p : Option LogRange) → P (warm_log_at m position p).1
+    read position None = warmed None
+    read position (Some p) = here
+
+    put : (page : ℕ) (w : Option Warming) → P (warm_put_at m page w).1
+    put page None = here
+    put page (Some w) = warmed (Some (record w { put = w.put + 1 }))
+
+    finish : (known : Known) (w : Option Warming) → m.warm ≡ w → P (warm_end_at shelf m known w).1
+    finish known None is = here
+    finish known (Some w) is = free (with_pages w.space (pages_drawn shelf m w.space) m) (warm_end_at shelf m known (Some w)).1 refl refl refl refl (pages w is)
 
 -- ---- the table of turns
 
@@ -156,36 +177,40 @@ pub record KeptByArchiver (P : Machine → Type 0) (m : Machine) (k : ℕ) : Typ
   pub finish : P (end_at m k (archive_of m k)).1
   pub cancel : (count : ℕ) (why : Why) → P (cancel_at count m k why (archive_of m k)).1
 
-turn_of_steady : (P : Machine → Type 0) (shelf : Shelf) (g : Given) (m : Machine) (n k : ℕ) (event : Event) → Steady P k → KeptByArchiver P m k → P m → P (turn_of shelf g m n k event).1
-turn_of_steady P shelf g m n k BeginTurn st a h = begin_steady P k st m (seat_of m k) (seat_of m k).txn h
-turn_of_steady P shelf g m n k (InsertTurn reg name row) st a h = insert_steady P k st m n (seat_of m k) (seat_of m k).txn reg name row h
-turn_of_steady P shelf g m n k (UpdateTurn target row) st a h = change_steady P k st m n (seat_of m k) (seat_of m k).txn target (Some row) h
-turn_of_steady P shelf g m n k (DeleteTurn target) st a h = change_steady P k st m n (seat_of m k) (seat_of m k).txn target None h
-turn_of_steady P shelf g m n k (ReadTurn target) st a h = read_steady P k st m (seat_of m k) (seat_of m k).txn target h
-turn_of_steady P shelf g m n k (ListTurn name page) st a h = list_steady P k st m (seat_of m k) (seat_of m k).txn name page h
-turn_of_steady P shelf g m n k CommitTurn st a h = commit_steady P k st m (seat_of m k) (seat_of m k).txn h
-turn_of_steady P shelf g m n k UndoOne st a h = undo_steady P k st m n (seat_of m k).txn h
-turn_of_steady P shelf g m n k EndRollback st a h = rolled_steady P k st m (seat_of m k) (seat_of m k).txn h
-turn_of_steady P shelf g m n k CheckpointTurn st a h = st.rests m (make_checkpoint m) (checkpoint_rests m) h
-turn_of_steady P shelf g m n k CleanTurn st a h = st.rests m (clean_at m g.dirty).1 (clean_rests m g.dirty) h
-turn_of_steady P shelf g m n k (ArchiveStart level names) st a h = a.start level names
-turn_of_steady P shelf g m n k ArchiveTurn st a h = a.take
-turn_of_steady P shelf g m n k ArchiveEnd st a h = a.finish
-turn_of_steady P shelf g m n k (ArchiveCancel why) st a h = a.cancel g.count why
-turn_of_steady P shelf g m n k LogPick st a h =
+turn_of_steady : (P : Machine → Type 0) (shelf : Shelf) (g : Given) (m : Machine) (n k : ℕ) (event : Event) → Steady P k → KeptByArchiver P m k → KeptByRestorer P shelf m → P m
+    → P (turn_of shelf g m n k event).1
+turn_of_steady P shelf g m n k BeginTurn st a e h = begin_steady P k st m (seat_of m k) (seat_of m k).txn h
+turn_of_steady P shelf g m n k (InsertTurn reg name row) st a e h = insert_steady P k st m n (seat_of m k) (seat_of m k).txn reg name row h
+turn_of_steady P shelf g m n k (UpdateTurn target row) st a e h = change_steady P k st m n (seat_of m k) (seat_of m k).txn target (Some row) h
+turn_of_steady P shelf g m n k (DeleteTurn target) st a e h = change_steady P k st m n (seat_of m k) (seat_of m k).txn target None h
+turn_of_steady P shelf g m n k (ReadTurn target) st a e h = read_steady P k st m (seat_of m k) (seat_of m k).txn target h
+turn_of_steady P shelf g m n k (ListTurn name page) st a e h = list_steady P k st m (seat_of m k) (seat_of m k).txn name page h
+turn_of_steady P shelf g m n k CommitTurn st a e h = commit_steady P k st m (seat_of m k) (seat_of m k).txn h
+turn_of_steady P shelf g m n k UndoOne st a e h = undo_steady P k st m n (seat_of m k).txn h
+turn_of_steady P shelf g m n k EndRollback st a e h = rolled_steady P k st m (seat_of m k) (seat_of m k).txn h
+turn_of_steady P shelf g m n k CheckpointTurn st a e h = st.rests m (make_checkpoint m) (checkpoint_rests m) h
+turn_of_steady P shelf g m n k CleanTurn st a e h = st.rests m (clean_at m g.dirty).1 (clean_rests m g.dirty) h
+turn_of_steady P shelf g m n k (ArchiveStart level names) st a e h = a.start level names
+turn_of_steady P shelf g m n k ArchiveTurn st a e h = a.take
+turn_of_steady P shelf g m n k ArchiveEnd st a e h = a.finish
+turn_of_steady P shelf g m n k (ArchiveCancel why) st a e h = a.cancel g.count why
+turn_of_steady P shelf g m n k LogPick st a e h =
     let u = to_back_up (config_of m) (reuse_of m) m.log.ring in
     st.rests m (pick_at m u).1 (pick_rests m u) h
-turn_of_steady P shelf g m n k CopyPage st a h = st.rests m (copy_at m m.log.picking).1 (copy_rests m m.log.picking) h
-turn_of_steady P shelf g m n k LogDone st a h = st.rests m (done_at m m.log.picking).1 (done_rests m m.log.picking) h
-turn_of_steady P shelf g m n k (LogCancel why) st a h = st.rests m (uncopied_at g.count m why m.log.picking).1 (uncopied_rests g.count m why m.log.picking) h
-turn_of_steady P shelf g m n k SwitchTurn st a h = st.rests m (switch_turn m).1 (switch_rests m) h
-turn_of_steady P shelf g m n k (WarmStart name) st a h = warm_steady P k st m (space_named (config_of m) name) h
-turn_of_steady P shelf g m n k (ReadLog position) st a h = log_steady P k st m position (page_of m.log.ring position) h
-turn_of_steady P shelf g m n k (WarmPut page) st a h = put_steady P k st m page m.warm h
-turn_of_steady P shelf g m n k (WarmEnd known) st a h = warm_end_steady P k st shelf m known m.warm h
-turn_of_steady P shelf g m n k (WarmCancel since why) st a h = same P k st m (record m { warm = None }) refl refl refl h
+turn_of_steady P shelf g m n k CopyPage st a e h = st.rests m (copy_at m m.log.picking).1 (copy_rests m m.log.picking) h
+turn_of_steady P shelf g m n k LogDone st a e h = st.rests m (done_at m m.log.picking).1 (done_rests m m.log.picking) h
+turn_of_steady P shelf g m n k (LogCancel why) st a e h = st.rests m (uncopied_at g.count m why m.log.picking).1 (uncopied_rests g.count m why m.log.picking) h
+turn_of_steady P shelf g m n k SwitchTurn st a e h = st.rests m (switch_turn m).1 (switch_rests m) h
+turn_of_steady P shelf g m n k (WarmStart name) st a e h = e.start (space_named (config_of m) name)
+turn_of_steady P shelf g m n k (ReadLog position) st a e h = e.read position (page_of m.log.ring position)
+turn_of_steady P shelf g m n k (WarmPut page) st a e h = e.put page
+turn_of_steady P shelf g m n k (WarmEnd known) st a e h = e.finish known
+turn_of_steady P shelf g m n k (WarmCancel since why) st a e h = e.cancel
+
+halted : (m : Machine) (n : ℕ) → Stays m (record m { stopped = Some n })
+halted m n = record { fixed = refl; work = refl; incarnation = refl; up = λ space. refl; warm = refl }
 
 pub turn_steady : (P : Machine → Type 0) (shelf : Shelf) (g : Given) (m : Machine) (n : ℕ) (actor : Actor) (event : Event)
-    → Steady P (number_of actor) → KeptByArchiver P m (number_of actor) → P m → P (turn shelf g m n actor event).1
-turn_steady P shelf g m n actor event st a h =
-    turn_keeps P shelf g m n actor event h (same P (number_of actor) st m (record m { stopped = Some n }) refl refl refl h) (turn_of_steady P shelf g m n (number_of actor) event st a h)
+    → Steady P (number_of actor) → KeptByArchiver P m (number_of actor) → KeptByRestorer P shelf m → P m → P (turn shelf g m n actor event).1
+turn_steady P shelf g m n actor event st a e h =
+    turn_keeps P shelf g m n actor event h (same P (number_of actor) st m (record m { stopped = Some n }) (halted m n) refl h) (turn_of_steady P shelf g m n (number_of actor) event st a e h)

@@ -53,8 +53,8 @@ pub waits : (m n : Machine) (k : ℕ) → Rests m n → waiting_of n (archive_of
 waits m n k r = waits_by m n k r.stays (ap (λ (l : List (Option Archive)). slice_index_or l (k - 1) None) r.archives)
 
 -- the turns of other archivers leave them as they were
-pub waits_beside : (m n : Machine) (k j : ℕ) → Beside k m n → 1 ≤ j → j ≢ k → waiting_of n (archive_of n j) ≡ waiting_of m (archive_of m j)
-waits_beside m n k j b from_j differ = waits_by m n j b.stays (b.archives j from_j differ)
+pub waits_beside : (m n : Machine) (k j : ℕ) → Beside k m n → 1 ≤ k → 1 ≤ j → j ≢ k → waiting_of n (archive_of n j) ≡ waiting_of m (archive_of m j)
+waits_beside m n k j b from_k from_j differ = waits_by m n j b.stays (b.archives j from_k from_j differ)
 
 -- ---- how many images are kept
 

@@ -1,3 +1,4 @@
 pub mod Apart
 pub mod Room
+pub mod Spaces
 pub mod Tables

@@ -36,6 +36,7 @@ ghost use Rattle.ol_model.specs.Steps.{append, change_row};
 ghost use Rattle.ol_model.specs.Turns.{Given, turn};
 ghost use Rattle.ol_model.specs.Waiting.{images_held, left_of, waiting, waiting_of};
 ghost use Rattle.ol_turn_laws.specs.Apart.{Apart};
+ghost use Rattle.ol_turn_laws.specs.Spaces.{KnowsSpaces};
 ghost use Rattle.ol_turn_laws.specs.Tables.{TellsSessions, table_in};
 ghost use Rattle.ol_turn_laws.specs.Room.{HasShortRow, HasValues, HoldsShort, HoldsShortBlocks, HoldsShortRows, IsFoundWell, LeavesShort, Orderly, Regular, Roomy};
 
@@ -192,6 +193,16 @@ pub fn archives_stay_apart()
     ensures opened { (c : Config) (f : Found) → Apart (opened c f) }
     ensures turn { (shelf : Shelf) (g : Given) (m : Machine) (n : ℕ) (actor : Actor) (event : Event) → Apart m → Apart (turn shelf g m n actor event).1 }
     ensures history { (shelf : Shelf) (m : Machine) (h : List Entry) → Apart m → Apart (state_at shelf m h) }
+{}
+
+/// The spaces of running archives are up, and the space of which a warm restore is under way is down: on a newly formatted
+/// disk and behind an opening nothing runs, and each turn of each actor, whether it answers, refuses or meets a fault, keeps
+/// that, and so does a history.
+pub fn spaces_stay_known()
+    ensures formatted { (c : Config) → KnowsSpaces (formatted c) }
+    ensures opened { (c : Config) (f : Found) → KnowsSpaces (opened c f) }
+    ensures turn { (shelf : Shelf) (g : Given) (m : Machine) (n : ℕ) (actor : Actor) (event : Event) → KnowsSpaces m → KnowsSpaces (turn shelf g m n actor event).1 }
+    ensures history { (shelf : Shelf) (m : Machine) (h : List Entry) → KnowsSpaces m → KnowsSpaces (state_at shelf m h) }
 {}
 
 /// What an opening finds of a sound journal is in order, where its start is that of the journal's first part, and each page that

@@ -35,13 +35,13 @@ pub returns-clause-switch : goal.returns-clause-switch
 returns-clause-switch k = λ m j. waits m (switch_turn m).1 j (switch_rests m)
 
 pub returns-clause-start : goal.returns-clause-start
-returns-clause-start c = λ m k level names a j from_k from_j differ. waits_beside m (start_at m k level names a).1 k j (start_beside m k level names a from_k) from_j differ
+returns-clause-start c = λ m k level names a j from_k from_j differ. waits_beside m (start_at m k level names a).1 k j (start_beside m k level names a) from_k from_j differ
 
 pub returns-clause-take : goal.returns-clause-take
-returns-clause-take c = λ m k a j from_k from_j differ. waits_beside m (take_at m k a).1 k j (take_beside m k a from_k) from_j differ
+returns-clause-take c = λ m k a j from_k from_j differ. waits_beside m (take_at m k a).1 k j (take_beside m k a) from_k from_j differ
 
 pub returns-clause-end : goal.returns-clause-end
-returns-clause-end c = λ m k a j from_k from_j differ. waits_beside m (end_at m k a).1 k j (end_beside m k a from_k) from_j differ
+returns-clause-end c = λ m k a j from_k from_j differ. waits_beside m (end_at m k a).1 k j (end_beside m k a) from_k from_j differ
 
 pub returns-clause-cancel : goal.returns-clause-cancel
-returns-clause-cancel c = λ count m k why a j from_k from_j differ. waits_beside m (cancel_at count m k why a).1 k j (cancel_beside count m k why a from_k) from_j differ
+returns-clause-cancel c = λ count m k why a j from_k from_j differ. waits_beside m (cancel_at count m k why a).1 k j (cancel_beside count m k why a) from_k from_j differ

@@ -1,0 +1,4 @@
+pub mod BeganLaws
+pub mod CutLaws
+pub mod RunLaws
+pub mod SavesetLaws
