@@ -272,328 +272,181 @@ const RID: Rid = Rid {
 
 const SESSION: Actor = Actor::Session(1);
 
-/// Actors, line numbers and replies with their texts, of the small configuration.
-const TEXTS: [(Actor, u16, Reply, &str); 56] = [
+/// Replies with their texts, of the small configuration.
+const REPLIES: [(Reply, &str); 48] = [
     (
-        SESSION,
-        12,
         Reply::Begun {
             txn: 4611686018427387904,
         },
-        "12 s1 begun 4611686018427387904\n",
+        "begun 4611686018427387904",
     ),
+    (Reply::At { rid: RID }, "rid data1:7:30"),
+    (Reply::Changed { rid: RID }, "changed data1:7:30"),
+    (Reply::Slots { bits: 0 }, "slots"),
+    (Reply::Slots { bits: 0x4000_0405 }, "slots 0 2 10 30"),
+    (Reply::Committed { position: 3 }, "committed 3"),
+    (Reply::Undone { rid: RID }, "undone data1:7:30"),
+    (Reply::RolledBack { position: 29 }, "rolledback 29"),
+    (Reply::Checkpointed { position: 6 }, "checkpointed 6"),
+    (Reply::Cleaned { space: 1, page: 7 }, "cleaned data1:7"),
+    (Reply::NothingDirty, "nothing"),
     (
-        SESSION,
-        12,
-        Reply::At { rid: RID },
-        "12 s1 rid data1:7:30\n",
-    ),
-    (
-        SESSION,
-        12,
-        Reply::Changed { rid: RID },
-        "12 s1 changed data1:7:30\n",
-    ),
-    (SESSION, 12, Reply::Slots { bits: 0 }, "12 s1 slots\n"),
-    (
-        SESSION,
-        12,
-        Reply::Slots { bits: 0x4000_0405 },
-        "12 s1 slots 0 2 10 30\n",
-    ),
-    (
-        SESSION,
-        12,
-        Reply::Committed { position: 3 },
-        "12 s1 committed 3\n",
-    ),
-    (
-        SESSION,
-        12,
-        Reply::Undone { rid: RID },
-        "12 s1 undone data1:7:30\n",
-    ),
-    (
-        SESSION,
-        12,
-        Reply::RolledBack { position: 29 },
-        "12 s1 rolledback 29\n",
-    ),
-    (
-        SESSION,
-        12,
-        Reply::Checkpointed { position: 6 },
-        "12 s1 checkpointed 6\n",
-    ),
-    (
-        SESSION,
-        12,
-        Reply::Cleaned { space: 1, page: 7 },
-        "12 s1 cleaned data1:7\n",
-    ),
-    (SESSION, 12, Reply::NothingDirty, "12 s1 nothing\n"),
-    (
-        SESSION,
-        12,
         Reply::Started {
             number: 2,
             cut: 3,
             pages: 4,
         },
-        "12 s1 started 2 3 4\n",
+        "started 2 3 4",
     ),
     (
-        SESSION,
-        12,
         Reply::PageIs {
             space: 0,
             page: 65535,
         },
-        "12 s1 page root:65535\n",
+        "page root:65535",
     ),
-    (SESSION, 12, Reply::AllTaken, "12 s1 alltaken\n"),
+    (Reply::AllTaken, "alltaken"),
     (
-        SESSION,
-        12,
         Reply::Archived {
             number: 2,
             cut: 3,
             pages: 4,
         },
-        "12 s1 archived 2 3 4\n",
+        "archived 2 3 4",
     ),
+    (Reply::Cancelled { number: 2 }, "cancelled 2"),
     (
-        SESSION,
-        12,
-        Reply::Cancelled { number: 2 },
-        "12 s1 cancelled 2\n",
-    ),
-    (
-        SESSION,
-        12,
         Reply::Picked {
             uniq: 18446744073709551615,
             pages: 4,
         },
-        "12 s1 picked 18446744073709551615 4\n",
+        "picked 18446744073709551615 4",
     ),
     (
-        SESSION,
-        12,
         Reply::LogPage {
             uniq: 18446744073709551615,
             index: 9,
         },
-        "12 s1 logpage 18446744073709551615 9\n",
+        "logpage 18446744073709551615 9",
     ),
     (
-        SESSION,
-        12,
         Reply::Backed {
             uniq: 18446744073709551615,
         },
-        "12 s1 backed 18446744073709551615\n",
+        "backed 18446744073709551615",
     ),
-    (SESSION, 12, Reply::NothingToBack, "12 s1 nothing\n"),
+    (Reply::NothingToBack, "nothing"),
+    (Reply::Switched { uniq: 1 }, "switched 1"),
+    (Reply::Warming { space: 1, upto: 18 }, "warming data1 18"),
+    (Reply::WarmLog { first: 12 }, "warmlog 12"),
+    (Reply::Put { page: 7 }, "put 7"),
+    (Reply::Up { space: 1 }, "up data1"),
+    (Reply::NoTxn, "notxn"),
+    (Reply::TxnOpen, "txnopen"),
+    (Reply::NoRow, "norow"),
+    (Reply::RowLocked { holder: 16 }, "rowlocked 16"),
+    (Reply::SpaceFull { space: 1 }, "spacefull data1"),
+    (Reply::SpaceDown { space: 0 }, "spacedown root"),
+    (Reply::NoSpace, "nospace"),
+    (Reply::LogsFull { uniq: 1 }, "logsfull 1"),
+    (Reply::Unbound, "unbound"),
+    (Reply::Archiving { archiver: 4 }, "archiving 4"),
+    (Reply::NoParent { space: 1, level: 0 }, "noparent data1 0"),
+    (Reply::NoArchive, "noarchive"),
+    (Reply::BeforeFull { entry: 8 }, "beforefull 8"),
+    (Reply::PagesLeft { count: 2 }, "pagesleft 2"),
+    (Reply::TapeFault { drive: 4, count: 3 }, "tapefault 4 3"),
+    (Reply::OutOfTape { drive: 4 }, "outoftape 4"),
+    (Reply::NotDown { space: 1 }, "notdown data1"),
     (
-        SESSION,
-        12,
-        Reply::Switched { uniq: 1 },
-        "12 s1 switched 1\n",
-    ),
-    (
-        SESSION,
-        12,
-        Reply::Warming { space: 1, upto: 18 },
-        "12 s1 warming data1 18\n",
-    ),
-    (
-        SESSION,
-        12,
-        Reply::WarmLog { first: 12 },
-        "12 s1 warmlog 12\n",
-    ),
-    (SESSION, 12, Reply::Put { page: 7 }, "12 s1 put 7\n"),
-    (SESSION, 12, Reply::Up { space: 1 }, "12 s1 up data1\n"),
-    (SESSION, 12, Reply::NoTxn, "12 s1 notxn\n"),
-    (SESSION, 12, Reply::TxnOpen, "12 s1 txnopen\n"),
-    (SESSION, 12, Reply::NoRow, "12 s1 norow\n"),
-    (
-        SESSION,
-        12,
-        Reply::RowLocked { holder: 16 },
-        "12 s1 rowlocked 16\n",
-    ),
-    (
-        SESSION,
-        12,
-        Reply::SpaceFull { space: 1 },
-        "12 s1 spacefull data1\n",
-    ),
-    (
-        SESSION,
-        12,
-        Reply::SpaceDown { space: 0 },
-        "12 s1 spacedown root\n",
-    ),
-    (SESSION, 12, Reply::NoSpace, "12 s1 nospace\n"),
-    (
-        SESSION,
-        12,
-        Reply::LogsFull { uniq: 1 },
-        "12 s1 logsfull 1\n",
-    ),
-    (SESSION, 12, Reply::Unbound, "12 s1 unbound\n"),
-    (
-        SESSION,
-        12,
-        Reply::Archiving { archiver: 4 },
-        "12 s1 archiving 4\n",
-    ),
-    (
-        SESSION,
-        12,
-        Reply::NoParent { space: 1, level: 0 },
-        "12 s1 noparent data1 0\n",
-    ),
-    (SESSION, 12, Reply::NoArchive, "12 s1 noarchive\n"),
-    (
-        SESSION,
-        12,
-        Reply::BeforeFull { entry: 8 },
-        "12 s1 beforefull 8\n",
-    ),
-    (
-        SESSION,
-        12,
-        Reply::PagesLeft { count: 2 },
-        "12 s1 pagesleft 2\n",
-    ),
-    (
-        SESSION,
-        12,
-        Reply::TapeFault { drive: 4, count: 3 },
-        "12 s1 tapefault 4 3\n",
-    ),
-    (
-        SESSION,
-        12,
-        Reply::OutOfTape { drive: 4 },
-        "12 s1 outoftape 4\n",
-    ),
-    (
-        SESSION,
-        12,
-        Reply::NotDown { space: 1 },
-        "12 s1 notdown data1\n",
-    ),
-    (
-        SESSION,
-        12,
         Reply::MissingLevel {
             space: 1,
             level: 1,
             archive: 2,
         },
-        "12 s1 missinglevel data1 1 2\n",
+        "missinglevel data1 1 2",
     ),
+    (Reply::MissingLog { position: 13 }, "missinglog 13"),
     (
-        SESSION,
-        12,
-        Reply::MissingLog { position: 13 },
-        "12 s1 missinglog 13\n",
-    ),
-    (
-        SESSION,
-        12,
         Reply::DamagedVolume {
             drive: 4,
             volume: 5,
             block: 6,
         },
-        "12 s1 damagedvolume 4 5 6\n",
+        "damagedvolume 4 5 6",
     ),
+    (Reply::ShelfFault { count: 1 }, "shelffault 1"),
+    (Reply::DiskFault { chunk: 31 }, "diskfault 31"),
     (
-        SESSION,
-        12,
-        Reply::ShelfFault { count: 1 },
-        "12 s1 shelffault 1\n",
-    ),
-    (
-        SESSION,
-        12,
-        Reply::DiskFault { chunk: 31 },
-        "12 s1 diskfault 31\n",
-    ),
-    (
-        SESSION,
-        12,
         Reply::BadRead {
             chunk: 1,
             page: 70000,
         },
-        "12 s1 badread 1 70000\n",
+        "badread 1 70000",
     ),
+];
+
+/// Other actors and line numbers, with a reply and the text of the whole entry.
+const ENTRIES: [(Actor, u16, Reply, &str); 8] = [
     (
         Actor::Session(16),
         1,
         Reply::Stopped { entry: 3 },
-        "1 s16 stopped 3\n",
+        "1 s16 stopped 3",
     ),
     (
         Actor::Archiver(4),
         65535,
         Reply::Stopped { entry: 3 },
-        "65535 a4 stopped 3\n",
+        "65535 a4 stopped 3",
     ),
     (
         Actor::Backer,
         9,
         Reply::Stopped { entry: 3 },
-        "9 l1 stopped 3\n",
+        "9 l1 stopped 3",
     ),
     (
         Actor::Flusher,
         10,
         Reply::Stopped { entry: 3 },
-        "10 f1 stopped 3\n",
+        "10 f1 stopped 3",
     ),
     (
         Actor::Checkpointer,
         99,
         Reply::Stopped { entry: 3 },
-        "99 c1 stopped 3\n",
+        "99 c1 stopped 3",
     ),
     (
         Actor::Warmer,
         100,
         Reply::Stopped { entry: 3 },
-        "100 w1 stopped 3\n",
+        "100 w1 stopped 3",
     ),
-    (
-        Actor::Session(2),
-        4,
-        Reply::JournalFull,
-        "4 s2 journalfull\n",
-    ),
-    (Actor::Session(2), 5, Reply::BadRid, "5 s2 badrid\n"),
+    (Actor::Session(2), 4, Reply::JournalFull, "4 s2 journalfull"),
+    (Actor::Session(2), 5, Reply::BadRid, "5 s2 badrid"),
 ];
 
 /// Rows that were read, with their texts.
 const ROWS: &[(&[u8], &str)] = &[
-    (
-        b"a~! \\\x00\x7f\xff",
-        "12 s1 row =a~!\\20\\5c\\00\\7f\\ff\n",
-    ),
+    (b"a~! \\\x00\x7f\xff", "row =a~!\\20\\5c\\00\\7f\\ff"),
     (
         LONGEST_ROW,
-        "12 s1 row =zzzzzzzzzzzzzzzzzzzzzzzzzzzzzzzzzzzzzzzzzzzzzzzzzzzzzzzzzzzzzzz\n",
+        "row =zzzzzzzzzzzzzzzzzzzzzzzzzzzzzzzzzzzzzzzzzzzzzzzzzzzzzzzzzzzzzzz",
     ),
-    (b"", "12 s1 row =\n"),
+    (b"", "row ="),
 ];
 
-/// Whether an entry of this actor, line and reply has this text.
-fn is_text(table: &ChunkTable, actor: Actor, line: u16, reply: &Reply, wanted: &str) -> bool {
+/// Whether the text of an entry of this actor, line and reply is this one behind a front, and then a line feed.
+fn is_text(
+    table: &ChunkTable,
+    actor: Actor,
+    line: u16,
+    reply: &Reply,
+    front: &str,
+    wanted: &str,
+) -> bool {
     let entry = Entry {
         number: 77,
         actor,
@@ -605,32 +458,56 @@ fn is_text(table: &ChunkTable, actor: Actor, line: u16, reply: &Reply, wanted: &
     };
     let mut told = [0xff; ENTRY_LIMIT];
     let length = text(&entry, table, &mut told);
-    let (front, _) = told.split_at(length);
-    front == wanted.as_bytes()
+    let (told, _) = told.split_at(length);
+    match told.strip_prefix(front.as_bytes()) {
+        Some(rest) => rest.strip_suffix(b"\n".as_slice()) == Some(wanted.as_bytes()),
+        None => false,
+    }
+}
+
+/// Whether a reply of session 1 to line 12 has this text.
+fn is_reply_text(table: &ChunkTable, reply: &Reply, wanted: &str) -> bool {
+    is_text(table, SESSION, 12, reply, "12 s1 ", wanted)
 }
 
 /// Whether a row that was read has this text.
 fn is_row_text(table: &ChunkTable, bytes: &[u8], wanted: &str) -> bool {
     match Row::new(bytes) {
-        Some(row) => is_text(table, SESSION, 12, &Reply::RowIs { row }, wanted),
+        Some(row) => is_reply_text(table, &Reply::RowIs { row }, wanted),
         None => false,
     }
 }
 
-/// The first of these entries, from 0, that has another text.
-fn first_other_text(table: &ChunkTable, texts: &[(Actor, u16, Reply, &str)]) -> Option<usize> {
-    for (index, (actor, line, reply, wanted)) in texts.iter().enumerate() {
-        if !is_text(table, *actor, *line, reply, wanted) {
+/// The first of these replies, from 0, that has another text.
+fn first_other_reply(table: &ChunkTable, replies: &[(Reply, &str)]) -> Option<usize> {
+    for (index, (reply, wanted)) in replies.iter().enumerate() {
+        if !is_reply_text(table, reply, wanted) {
             return Some(index);
         }
     }
     None
 }
 
+/// The first of these entries, from 0, that has another text.
+fn first_other_entry(table: &ChunkTable, entries: &[(Actor, u16, Reply, &str)]) -> Option<usize> {
+    for (index, (actor, line, reply, wanted)) in entries.iter().enumerate() {
+        if !is_text(table, *actor, *line, reply, "", wanted) {
+            return Some(index);
+        }
+    }
+    None
+}
+
+/// The first of all replies that has another text.
+fn first_other_of_replies(table: &ChunkTable) -> Option<usize> {
+    let replies = REPLIES;
+    first_other_reply(table, &replies)
+}
+
 /// The first of all entries that has another text.
-fn first_other_of_all(table: &ChunkTable) -> Option<usize> {
-    let texts = TEXTS;
-    first_other_text(table, &texts)
+fn first_other_of_entries(table: &ChunkTable) -> Option<usize> {
+    let entries = ENTRIES;
+    first_other_entry(table, &entries)
 }
 
 #[test]
@@ -638,7 +515,8 @@ fn entries_have_their_texts(rt: HostRuntime) -> Result<(), Fail> {
     let Ok(table) = parse_config(rt.alloc(), SMALL_CONFIG.as_bytes()) else {
         panic!(rt; "the configuration is refused");
     };
-    assert_eq!(rt; first_other_of_all(&table), None);
+    assert_eq!(rt; first_other_of_replies(&table), None);
+    assert_eq!(rt; first_other_of_entries(&table), None);
     for (row, wanted) in ROWS {
         assert!(rt; is_row_text(&table, row, wanted), "{wanted}");
     }
