@@ -1,5 +1,5 @@
 -- How a command ends of which no count of faults rose: well, or for want of memory.
-use Rattle.std.specs.Prelude.{Err, List, Ok, Option, Result, Some, [], length, refl, take, ℕ, ◌∷◌, ◌≡◌, ◌≤◌, ◌⊎◌}
+use Rattle.std.specs.Prelude.{Err, List, Ok, Option, Result, Some, [], length, refl, take, ℕ, ◌∷◌, ◌≡◌, ◌≤◌}
 use Rattle.std.proofs.Common.{arith, inl, inr, subst, sym, ◌∙◌}
 use Rattle.ol_chunks.specs.Reading.{config_of}
 use Rattle.ol_format.specs.First.{AreLarge, IsFirstSmall, chunks_of}
@@ -7,9 +7,8 @@ use Rattle.ol_values.specs.Config.{Config}
 use Rattle.ol_values.specs.declared.history.Entry.{Entry}
 use Rattle.ol_values.specs.declared.line.Line.{Line}
 use Rattle.ol_outside.specs.Causes.{IsCalm, Rose}
-use Rattle.ol_outside.specs.Disk.{Bytes, Past}
+use Rattle.ol_outside.specs.Disk.{Past}
 use Rattle.ol_outside.specs.Drive.{capacity}
-use Rattle.ol_reserve.specs.Pair.{Newest}
 use Rattle.ol_reserve.specs.declared.anchor.Anchor.{Anchor}
 use Rattle.ol_script.specs.Script.{script_of}
 use Rattle.ol_volume.specs.Written.{Written}
@@ -19,15 +18,12 @@ use Rattle.ol_online.specs.declared.status.Status.TheVariants.{BadConfig, BadDis
 use Rattle.ol_online.specs.declared.told.Told.{Told}
 use Rattle.ol_online.specs.declared.words.Verb.{Verb}
 use Rattle.ol_online.specs.declared.words.Verb.TheVariants.{Init, Play}
+use Rattle.ol_online.specs.Calm.{FormatsCalmly, HasTape, IsSoundPlay, IsWell, PlaysCalmly}
 use Rattle.ol_online.specs.Command.{EndsPlay, EndsScript, EndsUnplayed, EndsWork, IsInit, IsPlayed, IsPrepared, IsReported, PlayedTo, archive_line_in, history_in, status_of_init}
 use Rattle.ol_online.specs.Initing.{EndsInit, config_limit}
 use Rattle.ol_online.specs.Opening.{HasStatusCause, IsOpened, OpensTable}
-use Rattle.ol_online.specs.Planning.{planned}
 use Rattle.ol_online.specs.Playing.{due, journal_after}
-
--- the command did its work, or memory was wanted
-abbrev IsWell : Status → Type 0
-IsWell status = (status ≡ Done) ⊎ (status ≡ NoMemory)
+use Rattle.ol_online.specs.Views.{Change, DiskView, SinkView, SourceView, bytes_on}
 
 no_fault : (before after : ℕ) → Rose before after → IsCalm before after → ⊥
 no_fault before after rose calm = omega (arith, rose, calm)
@@ -46,17 +42,6 @@ told_as_ended before after ended status calm (inl is) = is
 told_as_ended before after ended status calm (inr is) = absurd (no_fault before after is.2 calm)
 
 -- ---- a play
-
--- what a play needs besides memory: a script, an installation on line with large chunks, and lines that are built
-record IsPlayable (left : Option (List ℕ)) (tells : Type 0) (d : Bytes) (sizes : ℕ → ℕ) (lines : List Line) (c : Config) (n : ℕ) : Type 0 where
-  bytes : List ℕ
-  reads : left ≡ Some bytes
-  script : script_of bytes ≡ Ok lines
-  told : tells
-  anchor : Anchor
-  newest : Newest d (Some anchor)
-  opens : OpensTable sizes anchor (Ok c)
-  plans : planned c lines ≡ Ok n
 
 calm_script : (left : Option (List ℕ)) (bytes : List ℕ) (lines : List Line) (before after : ℕ) (status : Status) → left ≡ Some bytes → script_of bytes ≡ Ok lines → IsCalm before after
     → EndsScript left before after (Err status) → status ≡ NoMemory
@@ -92,20 +77,22 @@ calm_opening sizes a c (TapeFault drive) good no_disk o = absurd o
 calm_opening sizes a c (OutOfTape drive) good no_disk o = absurd o
 
 -- what was read, opened and planned is that script, configuration and plan
-prepared_is : (left : Option (List ℕ)) (tells : Type 0) (d : Bytes) (sizes : ℕ → ℕ) (lines : List Line) (c : Config) (n : ℕ) (given : List Line) (found : Config) (plan : Result ℕ ℕ)
-    → IsPlayable left tells d sizes lines c n → IsPrepared left tells d sizes given found plan → (given ≡ lines) × (found ≡ c) × (plan ≡ Ok n)
-prepared_is left tells d sizes lines c n given found plan p q =
-    let read : given ≡ lines = (let first = q.says p.bytes p.reads in let second = p.script in cc) in
+prepared_is : (source : SourceView) (tells : Type 0) (disk : DiskView) (lines : List Line) (c : Config) (n : ℕ) (given : List Line) (found : Config) (plan : Result ℕ ℕ)
+    → IsSoundPlay source tells disk lines c n → IsPrepared source.left tells (bytes_on disk) disk.sizes given found plan → (given ≡ lines) × (found ≡ c) × (plan ≡ Ok n)
+prepared_is source tells disk lines c n given found plan p q =
+    let read : given ≡ lines = (let first = q.says p.bytes p.left in let second = p.script in cc) in
     let opened : found ≡ c = (let first = q.opens.only p.told p.anchor p.newest in let one = first.1 in let two = p.opens.1 in cc) in
     (read, opened, (let first = q.plans in let second = p.plans in cc))
 
-calm_unplayed : (left : Option (List ℕ)) (before after : ℕ) (tells : Type 0) (d : Bytes) (sizes : ℕ → ℕ) (lines : List Line) (c : Config) (n : ℕ) (status : Status)
-    → IsPlayable left tells d sizes lines c n → IsCalm before after → ((chunk : ℕ) → status ≡ DiskFault chunk → ⊥) → EndsUnplayed left before after tells d sizes status → status ≡ NoMemory
-calm_unplayed left before after tells d sizes lines c n status p calm no_disk (inl e) = calm_script left p.bytes lines before after status p.reads p.script calm e
-calm_unplayed left before after tells d sizes lines c n status p calm no_disk (inr (inl (given, says, opens))) =
-    calm_opening sizes p.anchor c status p.opens no_disk (opens.only p.told p.anchor p.newest)
-calm_unplayed left before after tells d sizes lines c n status p calm no_disk (inr (inr (given, found, bad, prepared, is))) =
-    let same = (prepared_is left tells d sizes lines c n given found (Err bad) p prepared).2 in cc
+calm_unplayed : (reads : Change SourceView) (tells : Type 0) (disk : DiskView) (lines : List Line) (c : Config) (n : ℕ) (status : Status)
+    → IsSoundPlay reads.old tells disk lines c n → IsCalm reads.old.faults reads.new.faults → ((chunk : ℕ) → status ≡ DiskFault chunk → ⊥)
+    → EndsUnplayed reads.old.left reads.old.faults reads.new.faults tells (bytes_on disk) disk.sizes status → status ≡ NoMemory
+calm_unplayed reads tells disk lines c n status p calm no_disk (inl e) =
+    calm_script reads.old.left p.bytes lines reads.old.faults reads.new.faults status p.left p.script calm e
+calm_unplayed reads tells disk lines c n status p calm no_disk (inr (inl (given, says, opens))) =
+    calm_opening disk.sizes p.anchor c status p.opens no_disk (opens.only p.told p.anchor p.newest)
+calm_unplayed reads tells disk lines c n status p calm no_disk (inr (inr (given, found, bad, prepared, is))) =
+    let same = (prepared_is reads.old tells disk lines c n given found (Err bad) p prepared).2 in cc
 
 calm_play : (c : Config) (lines : List Line) (archive : Option Line) (w v : Written) (h : List Entry) (status : Status) → IsCalm w.faults v.faults → length (due c archive (journal_after c h)) ≤ capacity w.tape
     → PlayedTo c lines archive w h v status → IsWell status
@@ -130,34 +117,30 @@ calm_played c lines n w told v status calm enough p =
     let told_history : history_in told ≡ p.history = subst (λ (t : Told). history_in t ≡ p.history) (sym p.told_is) refl in
     calm_play c lines (archive_line_in n lines) w v p.history status calm (subst (λ (h : List Entry). length (due c (archive_line_in n lines) (journal_after c h)) ≤ capacity w.tape) told_history enough) p.played
 
-calm_work : (left : Option (List ℕ)) (before after : ℕ) (tells : Type 0) (d : Bytes) (sizes : ℕ → ℕ) (lines : List Line) (c : Config) (n : ℕ) (w : Written) (told : Told) (v : Written) (status : Status)
-    → IsPlayable left tells d sizes lines c n → IsCalm before after → ((chunk : ℕ) → status ≡ DiskFault chunk → ⊥) → IsCalm w.faults v.faults
-    → length (due c (archive_line_in n lines) (journal_after c (history_in told))) ≤ capacity w.tape → EndsPlay left before after tells d sizes w told v status → IsWell status
-calm_work left before after tells d sizes lines c n w told v status p calm no_disk tape enough (inl (unplayed, e)) =
-    inr (calm_unplayed left before after tells d sizes lines c n status p calm no_disk e)
-calm_work left before after tells d sizes lines c n w told v status p calm no_disk tape enough (inr (given, found, count, prepared, played)) =
-    let same = prepared_is left tells d sizes lines c n given found (Ok count) p prepared in
+calm_work : (tells : Type 0) (reads : Change SourceView) (disk : DiskView) (tape : Change Written) (lines : List Line) (c : Config) (n : ℕ) (told : Told) (status : Status)
+    → IsSoundPlay reads.old tells disk lines c n → IsCalm reads.old.faults reads.new.faults → ((chunk : ℕ) → status ≡ DiskFault chunk → ⊥)
+    → HasTape tape lines c n (history_in told) → EndsPlay tells reads disk tape told status → IsWell status
+calm_work tells reads disk tape lines c n told status p calm no_disk enough (inl (unplayed, e)) =
+    inr (calm_unplayed reads tells disk lines c n status p calm no_disk e)
+calm_work tells reads disk tape lines c n told status p calm no_disk enough (inr (given, found, count, prepared, played)) =
+    let same = prepared_is reads.old tells disk lines c n given found (Ok count) p prepared in
     let counted : count ≡ n = (let plan = same.2 in cc) in
-    let there : IsPlayed c lines n w told v status =
-    subst (λ (x : Config). IsPlayed x lines n w told v status) same.1
-    (subst (λ (l : List Line). IsPlayed found l n w told v status) same.0
-    (subst (λ (k : ℕ). IsPlayed found given k w told v status) counted played)) in
-    calm_played c lines n w told v status tape enough there
+    let there : IsPlayed c lines n tape.old told tape.new status =
+    subst (λ (x : Config). IsPlayed x lines n tape.old told tape.new status) same.1
+    (subst (λ (l : List Line). IsPlayed found l n tape.old told tape.new status) same.0
+    (subst (λ (k : ℕ). IsPlayed found given k tape.old told tape.new status) counted played)) in
+    calm_played c lines n tape.old told tape.new status enough.calm enough.room there
 
 -- where no count rose, a play over a sound disk, with tape enough, was played to its end, or memory was wanted
-pub calm_command : (verb : Option Verb) (left : Option (List ℕ)) (bytes : List ℕ) (lines : List Line) (a : Anchor) (c : Config) (n before after : ℕ) (tells : Type 0) (d : Bytes) (sizes : ℕ → ℕ) (past : Past)
-    (counts_before counts_after : ℕ → ℕ) (w : Written) (told : Told) (v : Written) (h : List Entry) (writes_before writes_after : ℕ) (ended status : Status)
-    → EndsWork verb left before after tells d sizes past w told v ended → HasStatusCause counts_before counts_after ended → IsReported writes_before writes_after ended status → h ≡ history_in told
-    → verb ≡ Some Play → left ≡ Some bytes → script_of bytes ≡ Ok lines → tells → Newest d (Some a) → OpensTable sizes a (Ok c) → planned c lines ≡ Ok n
-    → IsCalm before after → ((chunk : ℕ) → IsCalm (counts_before chunk) (counts_after chunk)) → IsCalm w.faults v.faults → IsCalm writes_before writes_after
-    → length (due c (archive_line_in n lines) (journal_after c h)) ≤ capacity w.tape → (status ≡ Done) ⊎ (status ≡ NoMemory)
-calm_command verb left bytes lines a c n before after tells d sizes past counts_before counts_after w told v h writes_before writes_after ended status ends cause reported history play reads script disk newest opens plans
-    calm disk_calm tape_calm sink_calm enough =
-    let ready : IsPlayable left tells d sizes lines c n = record { bytes = bytes; reads = reads; script = script; told = disk; anchor = a; newest = newest; opens = opens; plans = plans } in
-    let work : EndsPlay left before after tells d sizes w told v ended = subst (λ (x : Option Verb). EndsWork x left before after tells d sizes past w told v ended) play ends in
-    let room = subst (λ (x : List Entry). length (due c (archive_line_in n lines) (journal_after c x)) ≤ capacity w.tape) history enough in
-    subst IsWell (sym (told_as_ended writes_before writes_after ended status sink_calm reported))
-    (calm_work left before after tells d sizes lines c n w told v ended ready calm (no_disk_fault counts_before counts_after ended cause disk_calm) tape_calm room work)
+pub calm_command : (verb : Option Verb) (tells : Type 0) (reads : Change SourceView) (disk : Change DiskView) (tape : Change Written) (writes : Change SinkView) (told : Told) (h : List Entry) (ended status : Status)
+    → EndsWork verb tells reads disk tape told ended → HasStatusCause disk.old.faults disk.new.faults ended → IsReported writes.old.faults writes.new.faults ended status → h ≡ history_in told
+    → verb ≡ Some Play → PlaysCalmly tells reads disk tape writes h status
+calm_command verb tells reads disk tape writes told h ended status ends cause reported history play lines c n sound calm enough =
+    let work : EndsPlay tells reads disk.old tape told ended = subst (λ (x : Option Verb). EndsWork x tells reads disk tape told ended) play ends in
+    let tape_enough = subst (λ (x : List Entry). HasTape tape lines c n x) history enough in
+    let no_disk = no_disk_fault disk.old.faults disk.new.faults ended cause calm.chunks in
+    subst IsWell (sym (told_as_ended writes.old.faults writes.new.faults ended status calm.sink reported))
+    (calm_work tells reads disk.old tape lines c n told ended sound calm.source no_disk tape_enough work)
 
 -- ---- a formatting
 
@@ -186,14 +169,12 @@ some_item [] five = absurd (omega (arith, five))
 some_item (item ∷ items) five = item
 
 -- where no count rose, a disk with large chunks was formatted, or memory was wanted
-pub calm_init : (verb : Option Verb) (left : Option (List ℕ)) (bytes : List ℕ) (c : Config) (before after : ℕ) (tells : Type 0) (d : Bytes) (sizes : ℕ → ℕ) (past : Past)
-    (counts_before counts_after : ℕ → ℕ) (w : Written) (told : Told) (v : Written) (writes_before writes_after : ℕ) (ended status : Status)
-    → EndsWork verb left before after tells d sizes past w told v ended → HasStatusCause counts_before counts_after ended → IsReported writes_before writes_after ended status
-    → verb ≡ Some Init → left ≡ Some bytes → config_of (take config_limit bytes) ≡ Ok c → AreLarge sizes c (chunks_of c)
-    → IsCalm before after → ((chunk : ℕ) → IsCalm (counts_before chunk) (counts_after chunk)) → IsCalm writes_before writes_after → (status ≡ Done) ⊎ (status ≡ NoMemory)
-calm_init verb left bytes c before after tells d sizes past counts_before counts_after w told v writes_before writes_after ended status ends cause reported init reads config large calm disk_calm sink_calm =
-    let work : IsInit left before after tells sizes past told ended × (v ≡ w) = subst (λ (x : Option Verb). EndsWork x left before after tells d sizes past w told v ended) init ends in
+pub calm_init : (verb : Option Verb) (tells : Type 0) (reads : Change SourceView) (disk : Change DiskView) (tape : Change Written) (writes : Change SinkView) (told : Told) (ended status : Status)
+    → EndsWork verb tells reads disk tape told ended → HasStatusCause disk.old.faults disk.new.faults ended → IsReported writes.old.faults writes.new.faults ended status
+    → verb ≡ Some Init → FormatsCalmly reads disk writes status
+calm_init verb tells reads disk tape writes told ended status ends cause reported init c sound calm =
+    let work : IsInit tells reads disk told ended × (tape.new ≡ tape.old) = subst (λ (x : Option Verb). EndsWork x tells reads disk tape told ended) init ends in
     let r = work.0.result in
-    let none : (chunk : ℕ) → status_of_init r ≡ DiskFault chunk → ⊥ = λ chunk is. no_disk_fault counts_before counts_after ended cause disk_calm chunk (work.0.status_is ∙ is) in
-    subst IsWell (sym (told_as_ended writes_before writes_after ended status sink_calm reported ∙ work.0.status_is))
-    (calm_format left bytes c before after tells sizes past r reads config large calm none work.0.ends)
+    let none : (chunk : ℕ) → status_of_init r ≡ DiskFault chunk → ⊥ = λ chunk is. no_disk_fault disk.old.faults disk.new.faults ended cause calm.chunks chunk (work.0.status_is ∙ is) in
+    subst IsWell (sym (told_as_ended writes.old.faults writes.new.faults ended status calm.sink reported ∙ work.0.status_is))
+    (calm_format reads.old.left sound.bytes c reads.old.faults reads.new.faults tells disk.old.sizes disk.new.past r sound.left sound.config sound.large calm.source none work.0.ends)

@@ -9,7 +9,6 @@ use Rattle.ol_chunks.specs.Limits.{IsConfig}
 use Rattle.ol_chunks.specs.Reading.{config_of}
 use Rattle.ol_values.specs.Config.{Config, config_text}
 use Rattle.ol_outside.proofs.Moves.{appends_both}
-use Rattle.ol_outside.specs.Disk.{Bytes, Past}
 use Rattle.ol_volume.specs.Written.{Written}
 use Rattle.ol_online.specs.declared.told.Told.TheVariants.{Nothing}
 use Rattle.ol_online.specs.declared.status.Status.{Status}
@@ -21,8 +20,9 @@ use Rattle.ol_outside.specs.Drive.{Tape}
 use Rattle.ol_volume.specs.declared.writer.TapeEnd.TheVariants.{OutOfTape as OutEnd, TapeFault as FaultEnd}
 use Rattle.ol_online.specs.declared.archive.PlayEnd.{PlayEnd}
 use Rattle.ol_online.specs.declared.archive.PlayEnd.TheVariants.{NoMemory as Starved, Tape as TapeStop}
-use Rattle.ol_online.specs.Command.{EndsUnplayed, EndsWork, PlayedTo, drive_1, status_of_play}
+use Rattle.ol_online.specs.Command.{EndsUnplayed, EndsWork, PlayedTo, status_of_play}
 use Rattle.ol_online.specs.Playing.{PlaysShort, PlaysWell}
+use Rattle.ol_online.specs.Views.{Change, DiskView, SourceView, bytes_on, drive_1}
 
 -- ---- the output
 
@@ -52,10 +52,10 @@ text_again c n buf rest config count is =
     ap (λ (l : List ℕ). config_of l) front ∙ read_again c config
 
 -- a play of which nothing was played
-pub ends_unplayed : (verb : Option Verb) (left : Option (List ℕ)) (before after : ℕ) (tells : Type 0) (d : Bytes) (sizes : ℕ → ℕ) (past : Past) (w : Written) (status : Status)
-    → verb ≡ Some Play → EndsUnplayed left before after tells d sizes status → EndsWork verb left before after tells d sizes past w Nothing w status
-ends_unplayed verb left before after tells d sizes past w status is e =
-    subst (λ (v : Option Verb). EndsWork v left before after tells d sizes past w Nothing w status) (sym is) (inl ((refl, refl), e))
+pub ends_unplayed : (verb : Option Verb) (tells : Type 0) (reads : Change SourceView) (disk : Change DiskView) (tape : Change Written) (status : Status)
+    → verb ≡ Some Play → tape.new ≡ tape.old → EndsUnplayed reads.old.left reads.old.faults reads.new.faults tells (bytes_on disk.old) disk.old.sizes status → EndsWork verb tells reads disk tape Nothing status
+ends_unplayed verb tells reads disk tape status is same e =
+    subst (λ (v : Option Verb). EndsWork v tells reads disk tape Nothing status) (sym is) (inl ((refl, same), e))
 
 -- ---- the play
 

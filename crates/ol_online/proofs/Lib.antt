@@ -8,4 +8,5 @@ mod OpeningLaws
 mod OutputLaws
 mod PlanLaws
 mod PlayLaws
+mod SourceLaws
 mod WholePlay

@@ -7,7 +7,7 @@ use Rattle.ol_values.specs.declared.record.Record.{Record}
 use Rattle.ol_values.specs.Config.{Config}
 use Rattle.ol_rules.specs.Scripts.{Ascends}
 use Rattle.ol_core.specs.Lines.{First}
-use Rattle.ol_core.specs.Machine.{journal_in}
+use Rattle.ol_core.specs.Machine.{formatted, journal_in}
 use Rattle.ol_values.specs.Text.{IsInLineOrder}
 use Rattle.ol_object.specs.Bytes.{bytes_of}
 use Rattle.ol_outside.specs.Drive.{stream_of}
@@ -15,9 +15,20 @@ use Rattle.ol_volume.specs.Written.{Written}
 use Rattle.ol_core.specs.Core.{Seen}
 use Rattle.ol_online.specs.declared.archive.PlayEnd.{PlayEnd}
 use Rattle.ol_online.specs.declared.archive.PlayEnd.TheVariants.{NoMemory, Tape as TapeStop}
-use Rattle.ol_online.specs.Playing.{EndsPlay, EndsTape, EndsWell, IsReached, IsRun, PlaysShort, PlaysWell, Wrote, WrotePart, Job, job_of, journal_after, whole_archive}
+use Rattle.ol_online.specs.Playing.{EndsPlay, EndsTape, EndsWell, IsReached, IsRun, IsWaiting, PlaysShort, PlaysWell, Wrote, WrotePart, Job, job_of, journal_after, whole_archive}
 use Rattle.ol_online.proofs.ArchiveLaws.{same_stream}
 use Rattle.ol_online.proofs.PlayLaws.{reached_plays, run_journal, run_legal, run_order, run_stopped}
+
+-- ---- how a play begins
+
+abbrev pub begun : Config → Seen
+begun c = record { machine = formatted c; history = [] }
+
+pub begun_reached : (c : Config) (lines : List Line) (s : Seen) → s ≡ begun c → IsReached c lines s lines First
+begun_reached c lines s is = subst (λ (x : Seen). IsReached c lines x lines First) (sym is) (record { leads = refl })
+
+pub begun_waiting : (c : Config) (s : Seen) → s ≡ begun c → IsWaiting c s
+begun_waiting c s is = subst (λ (x : Seen). IsWaiting c x) (sym is) (record { idle = refl; next = refl; fixed = refl })
 
 -- ---- the lines of the session
 

@@ -6,8 +6,7 @@ use Rattle.ol_values.specs.declared.line.Line.{Line}
 use Rattle.ol_values.specs.Config.{Config}
 use Rattle.ol_values.specs.Text.{text}
 use Rattle.ol_outside.specs.Causes.{IsCalm, Rose}
-use Rattle.ol_outside.specs.Disk.{Bytes, Past}
-use Rattle.ol_outside.specs.Drive.{Tape}
+use Rattle.ol_outside.specs.Disk.{Bytes}
 use Rattle.ol_volume.specs.Written.{Written}
 use Rattle.ol_volume.specs.declared.writer.TapeEnd.TheVariants.{OutOfTape as OutEnd, TapeFault as FaultEnd}
 use Rattle.ol_script.specs.Script.{script_of}
@@ -24,6 +23,7 @@ use Rattle.ol_online.specs.Opening.{IsOpening}
 use Rattle.ol_online.specs.Planning.{planned}
 use Rattle.ol_online.specs.Playing.{PlaysShort, PlaysWell}
 use Rattle.ol_online.specs.Status.{status_text}
+use Rattle.ol_online.specs.Views.{Change, DiskView, SinkView, SourceView, bytes_on}
 
 -- ---- the output
 
@@ -47,10 +47,10 @@ abbrev pub IsReported : ℕ → ℕ → Status → Status → Type 0
 IsReported before after ended status = (status ≡ ended) ⊎ ((ended ≡ Done) × (status ≡ WriteFault) × Rose before after)
 
 -- what the sink got: all of the output where no fault came, and on Ok; a first part of it in any case
-pub record WritesOut (old new : Option (List ℕ)) (before after : ℕ) (status : Status) (output : List ℕ) : Type 0 where
-  pub calm : IsCalm before after → (status ≢ WriteFault) × Appends old new output
-  pub part : (n : ℕ) × Appends old new (take n output)
-  pub whole : status ≡ Done → Appends old new output
+pub record WritesOut (writes : Change SinkView) (status : Status) (output : List ℕ) : Type 0 where
+  pub calm : IsCalm writes.old.faults writes.new.faults → (status ≢ WriteFault) × Appends writes.old.contents writes.new.contents output
+  pub part : (n : ℕ) × Appends writes.old.contents writes.new.contents (take n output)
+  pub whole : status ≡ Done → Appends writes.old.contents writes.new.contents output
 
 -- ---- a play
 
@@ -65,10 +65,6 @@ EndsScript left before after (Err (BadScript line)) = Says left (Err line)
 EndsScript left before after (Err ReadFault) = Rose before after
 EndsScript left before after (Err NoMemory) = Unit {0}
 EndsScript left before after _ = ⊥
-
--- the drive of archiver 1
-abbrev pub drive_1 : Tape → ℕ → Written
-drive_1 tape faults = record { tape = tape; faults = faults; number = 1 }
 
 -- the archive line behind so many lines of the session, if there is one
 abbrev pub first_of : List Line → Option Line
@@ -109,11 +105,11 @@ EndsUnplayed left before after tells d sizes status =
     ⊎ ((lines : List Line) × Says left (Ok lines) × IsOpening tells d sizes (Err status))
     ⊎ ((lines : List Line) × (c : Config) × (n : ℕ) × IsPrepared left tells d sizes lines c (Err n) × (status ≡ BadScript n))
 
--- how a play ended: the source's bytes and counts of faults, the disk's bytes and sizes, drive 1 before and after, what is told and the status
-abbrev pub EndsPlay : Option (List ℕ) → ℕ → ℕ → Type 0 → Bytes → (ℕ → ℕ) → Written → Told → Written → Status → Type 0
-EndsPlay left before after tells d sizes w told v status =
-    (IsUnplayed w told v × EndsUnplayed left before after tells d sizes status)
-    ⊎ ((lines : List Line) × (c : Config) × (n : ℕ) × IsPrepared left tells d sizes lines c (Ok n) × IsPlayed c lines n w told v status)
+-- how a play ended, by what it read of the source, the disk as it was, what it put on drive 1, what is told and the status
+abbrev pub EndsPlay : Type 0 → Change SourceView → DiskView → Change Written → Told → Status → Type 0
+EndsPlay tells reads disk tape told status =
+    (IsUnplayed tape.old told tape.new × EndsUnplayed reads.old.left reads.old.faults reads.new.faults tells (bytes_on disk) disk.sizes status)
+    ⊎ ((lines : List Line) × (c : Config) × (n : ℕ) × IsPrepared reads.old.left tells (bytes_on disk) disk.sizes lines c (Ok n) × IsPlayed c lines n tape.old told tape.new status)
 
 -- ---- a command
 
@@ -127,28 +123,27 @@ status_of_init (Ok u) = Done
 status_of_init (Err status) = status
 
 -- a formatting ended so
-pub record IsInit (left : Option (List ℕ)) (before after : ℕ) (tells : Type 0) (sizes : ℕ → ℕ) (past : Past) (told : Told) (status : Status) : Type 0 where
+pub record IsInit (tells : Type 0) (reads : Change SourceView) (disk : Change DiskView) (told : Told) (status : Status) : Type 0 where
   pub result : Result Unit Status
   pub told_is : told ≡ told_of_init result
   pub status_is : status ≡ status_of_init result
-  pub ends : EndsInit left before after tells sizes past result
+  pub ends : EndsInit reads.old.left reads.old.faults reads.new.faults tells disk.old.sizes disk.new.past result
 
 -- how the work of a command ended, by what its words ask for
-abbrev pub EndsWork : Option Verb → Option (List ℕ) → ℕ → ℕ → Type 0 → Bytes → (ℕ → ℕ) → Past → Written → Told → Written → Status → Type 0
-EndsWork None left before after tells d sizes past w told v status = IsUnplayed w told v × (status ≡ BadWords)
-EndsWork (Some Init) left before after tells d sizes past w told v status = IsInit left before after tells sizes past told status × (v ≡ w)
-EndsWork (Some Play) left before after tells d sizes past w told v status = EndsPlay left before after tells d sizes w told v status
+abbrev pub EndsWork : Option Verb → Type 0 → Change SourceView → Change DiskView → Change Written → Told → Status → Type 0
+EndsWork None tells reads disk tape told status = IsUnplayed tape.old told tape.new × (status ≡ BadWords)
+EndsWork (Some Init) tells reads disk tape told status = IsInit tells reads disk told status × (tape.new ≡ tape.old)
+EndsWork (Some Play) tells reads disk tape told status = EndsPlay tells reads disk.old tape told status
 
--- how a command ended: the words' verb; of the source its bytes and counts of faults; of the disk its bytes, sizes and new past;
--- drive 1 before and after; of the sink its bytes and counts of faults; the history and the status
-pub record IsCommanded (verb : Option Verb) (left : Option (List ℕ)) (reads_before reads_after : ℕ) (tells : Type 0) (d : Bytes) (sizes : ℕ → ℕ) (past : Past) (w v : Written) (old new : Option (List ℕ)) (writes_before writes_after : ℕ) (h : List Entry) (status : Status) : Type 0 where
+-- how a command of this verb ended, by what it did to source, disk, drive 1 and sink, with this history and status
+pub record IsCommanded (verb : Option Verb) (tells : Type 0) (reads : Change SourceView) (disk : Change DiskView) (tape : Change Written) (writes : Change SinkView) (h : List Entry) (status : Status) : Type 0 where
   pub told : Told
   pub ended : Status
   pub history : history_in told ≡ h
-  pub ends : EndsWork verb left reads_before reads_after tells d sizes past w told v ended
+  pub ends : EndsWork verb tells reads disk tape told ended
   pub no_write : ended ≢ WriteFault
-  pub reported : IsReported writes_before writes_after ended status
-  pub output : WritesOut old new writes_before writes_after status (output_of told status)
+  pub reported : IsReported writes.old.faults writes.new.faults ended status
+  pub output : WritesOut writes status (output_of told status)
 
 -- ---- on the way
 
@@ -167,5 +162,5 @@ IsPlayStatus (OutOfTape drive) = Unit {0}
 IsPlayStatus _ = ⊥
 
 -- what was prepared was played, or memory was wanted before
-abbrev pub EndsPrepared : Config → List Line → ℕ → Written → Told → Written → Status → Type 0
-EndsPrepared c lines n w told v status = (IsUnplayed w told v × (status ≡ NoMemory)) ⊎ IsPlayed c lines n w told v status
+abbrev pub EndsPrepared : Config → List Line → ℕ → Change Written → Told → Status → Type 0
+EndsPrepared c lines n tape told status = (IsUnplayed tape.old told tape.new × (status ≡ NoMemory)) ⊎ IsPlayed c lines n tape.old told tape.new status

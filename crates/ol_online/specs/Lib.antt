@@ -1,8 +1,11 @@
 pub mod Blocks
+pub mod Calm
 pub mod Command
 pub mod Initing
 pub mod Opening
 pub mod Planning
 pub mod Playing
+pub mod Sources
 pub mod Status
+pub mod Views
 pub mod Words

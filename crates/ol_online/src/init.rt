@@ -2,8 +2,9 @@
 
 ghost use Rattle.std.specs.Prelude.{◌≡◌};
 ghost use Rattle.ol_format.specs.Formatted.{IsBetween, Stops};
-ghost use Rattle.ol_online.specs.Initing.{EndsConfig, EndsFormat, EndsInit, IsInitBetween, LeavesDisk, status_of_format};
+ghost use Rattle.ol_online.specs.Initing.{EndsConfig, EndsFormat, EndsInit, IsInitBetween, LeavesDisk, config_limit, status_of_format};
 ghost use Rattle.ol_online.specs.Opening.{HasDiskCause};
+ghost use Rattle.ol_online.specs.Sources.{TakesTo, status_in};
 
 use crate::status::Status;
 use ol_chunks::{ChunkTable, ConfigFault, parse_config};
@@ -25,6 +26,7 @@ pub(crate) fn init<D: Disk, S: Source>(
     source: &mut S,
 ) -> Result<(), Status>
     ensures ended { EndsInit (S.left source.old) (S.fault_count source.old) (S.fault_count source.new) D.tells (D.sizes disk.old) (D.past disk.new) result }
+    ensures reads { TakesTo config_limit (S.left source.old) (S.left source.new) (status_in result) }
     ensures untouched { LeavesDisk result disk.old disk.new }
     ensures stops { D.tells → Stops (D.past disk.old) (D.past disk.new) (IsInitBetween (S.left source.old) (D.past disk.old)) }
     ensures cause { HasDiskCause (D.fault_counts disk.old) (D.fault_counts disk.new) result }
@@ -38,7 +40,8 @@ pub(crate) fn init<D: Disk, S: Source>(
 
 /// Reads a configuration.
 fn read_config<S: Source>(alloc: Global, source: &mut S) -> Result<ChunkTable, Status>
-    ensures { EndsConfig (S.left source.old) (S.fault_count source.old) (S.fault_count source.new) result }
+    ensures ended { EndsConfig (S.left source.old) (S.fault_count source.old) (S.fault_count source.new) result }
+    ensures reads { TakesTo config_limit (S.left source.old) (S.left source.new) (status_in result) }
 {
     match read_all(alloc, source, CONFIG_LIMIT) {
         Ok(text) => match parse_config(alloc, &text) {

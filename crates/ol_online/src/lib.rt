@@ -12,23 +12,14 @@ mod told;
 mod words;
 mod work;
 
-ghost use Rattle.std.specs.Prelude.{◌≡◌, ◌≢◌, ◌≤◌, ◌⊎◌, ℕ, List, None, Ok, Some, All, length, slice_index_or, take};
-ghost use Rattle.ol_chunks.specs.Reading.{config_of};
-ghost use Rattle.ol_format.specs.First.{AreLarge, chunks_of};
+ghost use Rattle.std.specs.Prelude.{◌≡◌, ◌≢◌, ℕ, None, Some, All, length, slice_index_or};
 ghost use Rattle.ol_format.specs.Formatted.{Stops};
-ghost use Rattle.ol_values.specs.Config.{Config};
-ghost use Rattle.ol_values.specs.declared.line.Line.{Line};
-ghost use Rattle.ol_outside.specs.Causes.{IsCalm};
-ghost use Rattle.ol_outside.specs.Disk.{seen};
-ghost use Rattle.ol_outside.specs.Drive.{capacity};
-ghost use Rattle.ol_reserve.specs.declared.anchor.Anchor.{Anchor};
-ghost use Rattle.ol_reserve.specs.Pair.{Newest, there};
-ghost use Rattle.ol_script.specs.Script.{script_of};
-ghost use Rattle.ol_online.specs.Command.{IsCommanded, archive_line_in, drive_1};
-ghost use Rattle.ol_online.specs.Initing.{IsInitBetween, config_limit};
-ghost use Rattle.ol_online.specs.Opening.{HasStatusCause, OpensTable};
-ghost use Rattle.ol_online.specs.Planning.{planned};
-ghost use Rattle.ol_online.specs.Playing.{due, journal_after};
+ghost use Rattle.ol_online.specs.Calm.{FormatsCalmly, PlaysCalmly};
+ghost use Rattle.ol_online.specs.Command.{IsCommanded};
+ghost use Rattle.ol_online.specs.Initing.{IsInitBetween};
+ghost use Rattle.ol_online.specs.Opening.{HasStatusCause};
+ghost use Rattle.ol_online.specs.Sources.{TakesTo, limit_of};
+ghost use Rattle.ol_online.specs.Views.{reading, storing, taping, writing};
 ghost use Rattle.ol_online.specs.Words.{verb_told};
 
 use crate::told::report;
@@ -55,6 +46,10 @@ pub struct Rig<D, T, F> {
 /// `play` reads a script, opens the disk, and carries the lines out in file order, with pages in memory and the empty
 /// journal at first; it tells the history. Its archive goes to drive 1, in blocks of 2,144 bytes: the header, the pages
 /// that the journal changed, the trailer. No drive has a mounted volume with room at first.
+///
+/// `init` reads the first 1,025 bytes of `script`, `play` the first 16,776,961, or all where there are fewer. How many were
+/// read is open after `ReadFault` and `NoMemory`.
+///
 /// - `BadWords` comes where the words are neither command. Nothing is read then.
 /// - `ReadFault` comes where a read of the script or configuration failed.
 /// - `BadConfig` and `BadScript` give the first line, from 1, that is off the grammar. The disk is not touched then.
@@ -77,9 +72,21 @@ pub fn command<D: Disk, T: Drive, F: Shelf, S: Source, K: Sink>(
 ) -> (Rig<D, T, F>, Status, History)
     requires five { length rig.drives.items ≡ 5 }
     requires empty { All (λ d. (T.tape d).room ≡ 0) rig.drives.items }
-    ensures ended { (d : T) → IsCommanded (verb_told words.now) (S.left script.old) (S.fault_count script.old) (S.fault_count script.new) D.tells (there (D.sizes rig.disk) (seen (D.past rig.disk))) (D.sizes rig.disk) (D.past result.0.disk) (drive_1 (T.tape (slice_index_or rig.drives.items 1 d)) (T.fault_count (slice_index_or rig.drives.items 1 d))) (drive_1 (T.tape (slice_index_or result.0.drives.items 1 d)) (T.fault_count (slice_index_or result.0.drives.items 1 d))) (K.contents out.old) (K.contents out.new) (K.fault_count out.old) (K.fault_count out.new) result.2 result.1 }
-    ensures calm { (bytes : List ℕ) (lines : List Line) (a : Anchor) (c : Config) (n : ℕ) (d : T) → verb_told words.now ≡ Some Verb.Play → S.left script.old ≡ Some bytes → script_of bytes ≡ Ok lines → D.tells → Newest (there (D.sizes rig.disk) (seen (D.past rig.disk))) (Some a) → OpensTable (D.sizes rig.disk) a (Ok c) → planned c lines ≡ Ok n → IsCalm (S.fault_count script.old) (S.fault_count script.new) → ((chunk : ℕ) → IsCalm (D.fault_counts rig.disk chunk) (D.fault_counts result.0.disk chunk)) → IsCalm (T.fault_count (slice_index_or rig.drives.items 1 d)) (T.fault_count (slice_index_or result.0.drives.items 1 d)) → IsCalm (K.fault_count out.old) (K.fault_count out.new) → length (due c (archive_line_in n lines) (journal_after c result.2)) ≤ capacity (T.tape (slice_index_or rig.drives.items 1 d)) → (result.1 ≡ Status.Ok) ⊎ (result.1 ≡ Status.NoMemory) }
-    ensures calm_init { (bytes : List ℕ) (c : Config) → verb_told words.now ≡ Some Verb.Init → S.left script.old ≡ Some bytes → config_of (take config_limit bytes) ≡ Ok c → AreLarge (D.sizes rig.disk) c (chunks_of c) → IsCalm (S.fault_count script.old) (S.fault_count script.new) → ((chunk : ℕ) → IsCalm (D.fault_counts rig.disk chunk) (D.fault_counts result.0.disk chunk)) → IsCalm (K.fault_count out.old) (K.fault_count out.new) → (result.1 ≡ Status.Ok) ⊎ (result.1 ≡ Status.NoMemory) }
+    ensures ended { (d : T) → IsCommanded (verb_told words.now) D.tells
+        (reading S.left S.fault_count script.old script.new)
+        (storing D.past D.sizes D.fault_counts rig.disk result.0.disk)
+        (taping T.tape T.fault_count d rig.drives.items result.0.drives.items)
+        (writing K.contents K.fault_count out.old out.new) result.2 result.1 }
+    ensures calm { (d : T) → verb_told words.now ≡ Some Verb.Play → PlaysCalmly D.tells
+        (reading S.left S.fault_count script.old script.new)
+        (storing D.past D.sizes D.fault_counts rig.disk result.0.disk)
+        (taping T.tape T.fault_count d rig.drives.items result.0.drives.items)
+        (writing K.contents K.fault_count out.old out.new) result.2 result.1 }
+    ensures calm_init { verb_told words.now ≡ Some Verb.Init → FormatsCalmly
+        (reading S.left S.fault_count script.old script.new)
+        (storing D.past D.sizes D.fault_counts rig.disk result.0.disk)
+        (writing K.contents K.fault_count out.old out.new) result.1 }
+    ensures reads { (verb : Verb) → verb_told words.now ≡ Some verb → TakesTo (limit_of verb) (S.left script.old) (S.left script.new) result.1 }
     ensures cause { HasStatusCause (D.fault_counts rig.disk) (D.fault_counts result.0.disk) result.1 }
     ensures past { D.tells → verb_told words.now ≢ Some Verb.Init → D.past result.0.disk ≡ D.past rig.disk }
     ensures untouched { verb_told words.now ≡ Some Verb.Init → result.1 ≢ Status.Ok → result.1 ≢ Status.WriteFault → ((chunk : ℕ) → result.1 ≢ Status.DiskFault chunk) → result.0.disk ≡ rig.disk }

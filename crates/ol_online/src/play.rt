@@ -80,29 +80,6 @@ fn play_archive<T: Drive>(
     }
 }
 
-/// Carries out the lines of the session, and then the archive line.
-fn play_lines<T: Drive>(
-    alloc: Global,
-    core: &mut Core,
-    lines: &[Line],
-    archive: Option<&Line>,
-    writer: &mut Writer<T>,
-) -> Result<(), PlayEnd>
-    requires sessions { All IsSessionLine lines.now }
-    requires archive { IfSome (line_in archive) IsArchiveLine }
-    requires rising { Ascends (all_lines lines.now archive) }
-    requires drive { writer.old.number ≡ 1 }
-    requires idle { IsIdle core.old }
-    ensures well { (c : Config) → IfSome (line_in archive.entry) (IsNamed c) → IsReached c (all_lines lines.now archive.entry) core.old (all_lines lines.now archive.entry) First → IsWaiting c core.old → OnOk result (PlaysWell c (all_lines lines.now archive.entry) (line_in archive.entry) writer.old core.new.history writer.new) }
-    ensures short { (c : Config) → IfSome (line_in archive.entry) (IsNamed c) → IsReached c (all_lines lines.now archive.entry) core.old (all_lines lines.now archive.entry) First → IsWaiting c core.old → IfErr result (PlaysShort c (all_lines lines.now archive.entry) (line_in archive.entry) writer.old core.new.history writer.new) }
-    ensures order { (c : Config) → IfSome (line_in archive.entry) (IsNamed c) → IsReached c (all_lines lines.now archive.entry) core.old (all_lines lines.now archive.entry) First → IsWaiting c core.old → IsInLineOrder core.new.history }
-{
-    match play_session(core, lines) {
-        Ok(()) => play_archive(alloc, core, archive, writer),
-        Err(_) => Err(PlayEnd::NoMemory),
-    }
-}
-
 /// Plays lines from a newly formatted installation of this configuration on: those of the session in order,
 /// and then the archive line, whose blocks go on the writer's drive. It hands the history back. `NoMemory`
 /// comes where memory was refused, `Tape` where the drive's faults rose or its volumes are full; the history
@@ -123,11 +100,14 @@ pub(crate) fn play<T: Drive>(
     ensures short { IfErr result.1 (PlaysShort table (all_lines lines.now archive.entry) (line_in archive.entry) writer.old result.0 writer.new) }
     ensures order { IsInLineOrder result.0 }
 {
-    match Core::new(alloc, table) {
-        Ok(mut core) => {
-            let end = play_lines(alloc, &mut core, lines, archive, writer);
+    let Ok(mut core) = Core::new(alloc, table) else {
+        return (History::new(alloc), Err(PlayEnd::NoMemory));
+    };
+    match play_session(&mut core, lines) {
+        Ok(()) => {
+            let end = play_archive(alloc, &mut core, archive, writer);
             (core.into_history(), end)
         }
-        Err(_) => (History::new(alloc), Err(PlayEnd::NoMemory)),
+        Err(_) => (core.into_history(), Err(PlayEnd::NoMemory)),
     }
 }

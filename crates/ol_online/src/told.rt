@@ -5,6 +5,7 @@ ghost use Rattle.std.specs.Io.KnownBytes.{Appends};
 ghost use Rattle.ol_values.specs.Text.{IsInLineOrder};
 ghost use Rattle.ol_outside.specs.Causes.{HasCause};
 ghost use Rattle.ol_online.specs.Command.{IsReported, WritesOut, history_in, output_of, told_text};
+ghost use Rattle.ol_online.specs.Views.{writing};
 
 use crate::output::write_history;
 use crate::status::{Status, write_status};
@@ -68,7 +69,7 @@ pub(crate) fn report<K: Sink>(out: &mut K, told: &Told, status: Status) -> Statu
     requires order { IsInLineOrder (history_in told.now) }
     requires no_write { status ≢ Status.WriteFault }
     ensures kind { IsReported (K.fault_count out.old) (K.fault_count out.new) status result }
-    ensures output { WritesOut (K.contents out.old) (K.contents out.new) (K.fault_count out.old) (K.fault_count out.new) result (output_of told.now result) }
+    ensures output { WritesOut (writing K.contents K.fault_count out.old out.new) result (output_of told.now result) }
 {
     match write_output(out, told, status) {
         Ok(()) => status,

@@ -7,11 +7,14 @@ ghost use Rattle.ol_chunks.specs.Limits.{IsConfig};
 ghost use Rattle.ol_rules.specs.Scripts.{Ascends};
 ghost use Rattle.ol_outside.specs.Disk.{seen};
 ghost use Rattle.ol_reserve.specs.Pair.{there};
+ghost use Rattle.ol_script.specs.Script.{script_limit};
 ghost use Rattle.ol_script.specs.Spelling.{IsLine};
-ghost use Rattle.ol_online.specs.Command.{EndsPrepared, EndsScript, EndsUnplayed, EndsWork, IsPlayStatus, IsPrepared, PlayedTo, archive_line_in, drive_1, history_in, status_of_play};
+ghost use Rattle.ol_online.specs.Command.{EndsPrepared, EndsScript, EndsUnplayed, EndsWork, IsPlayStatus, IsPrepared, PlayedTo, archive_line_in, history_in, status_of_play};
 ghost use Rattle.ol_online.specs.Initing.{IsInitBetween};
 ghost use Rattle.ol_online.specs.Opening.{HasDiskCause, HasStatusCause};
 ghost use Rattle.ol_online.specs.Planning.{planned};
+ghost use Rattle.ol_online.specs.Sources.{TakesTo, limit_of, status_in};
+ghost use Rattle.ol_online.specs.Views.{drive_1, reading, storing, taping};
 ghost use Rattle.ol_online.specs.Words.{verb_told};
 
 use crate::archive::PlayEnd;
@@ -49,7 +52,11 @@ pub(crate) fn work<D: Disk, T: Drive, S: Source>(
 ) -> (Told, Status)
     requires five { length drives.old.items ≡ 5 }
     requires empty { All (λ d. (T.tape d).room ≡ 0) drives.old.items }
-    ensures ended { (d : T) → EndsWork (verb_told words.now) (S.left source.old) (S.fault_count source.old) (S.fault_count source.new) D.tells (there (D.sizes disk.old) (seen (D.past disk.old))) (D.sizes disk.old) (D.past disk.new) (drive_1 (T.tape (slice_index_or drives.old.items 1 d)) (T.fault_count (slice_index_or drives.old.items 1 d))) result.0 (drive_1 (T.tape (slice_index_or drives.new.items 1 d)) (T.fault_count (slice_index_or drives.new.items 1 d))) result.1 }
+    ensures ended { (d : T) → EndsWork (verb_told words.now) D.tells
+        (reading S.left S.fault_count source.old source.new)
+        (storing D.past D.sizes D.fault_counts disk.old disk.new)
+        (taping T.tape T.fault_count d drives.old.items drives.new.items) result.0 result.1 }
+    ensures reads { (verb : Verb) → verb_told words.now ≡ Some verb → TakesTo (limit_of verb) (S.left source.old) (S.left source.new) result.1 }
     ensures order { IsInLineOrder (history_in result.0) }
     ensures no_write { result.1 ≢ Status.WriteFault }
     ensures cause { HasStatusCause (D.fault_counts disk.old) (D.fault_counts disk.new) result.1 }
@@ -82,6 +89,7 @@ fn prepare<D: Disk, S: Source>(
 ) -> Result<Prepared, Status>
     ensures ok { IfOk result (λ p. IsPrepared (S.left source.old) D.tells (there (D.sizes disk.old) (seen (D.past disk.old))) (D.sizes disk.old) p.script p.table (Ok p.sessions)) }
     ensures config { IfOk result (λ p. IsConfig p.table) }
+    ensures reads { TakesTo script_limit (S.left source.old) (S.left source.new) (status_in result) }
     ensures no_write { IfErr result (λ status. status ≢ Status.WriteFault) }
     ensures err { IfErr result (EndsUnplayed (S.left source.old) (S.fault_count source.old) (S.fault_count source.new) D.tells (there (D.sizes disk.old) (seen (D.past disk.old))) (D.sizes disk.old)) }
     ensures cause { HasDiskCause (D.fault_counts disk.old) (D.fault_counts disk.new) result }
@@ -110,7 +118,8 @@ fn prepare<D: Disk, S: Source>(
 
 /// Reads a script.
 fn read_script<S: Source>(alloc: Global, source: &mut S) -> Result<Script, Status>
-    ensures { EndsScript (S.left source.old) (S.fault_count source.old) (S.fault_count source.new) result }
+    ensures ended { EndsScript (S.left source.old) (S.fault_count source.old) (S.fault_count source.new) result }
+    ensures reads { TakesTo script_limit (S.left source.old) (S.left source.new) (status_in result) }
 {
     match parse(alloc, source) {
         Ok(script) => Ok(script),
@@ -126,7 +135,8 @@ fn play_prepared<T: Drive>(alloc: Global, prepared: Prepared, drives: &mut Vec<T
     requires config { IsConfig prepared.table }
     requires five { length drives.old.items ≡ 5 }
     requires empty { All (λ d. (T.tape d).room ≡ 0) drives.old.items }
-    ensures played { (d : T) → EndsPrepared prepared.table prepared.script prepared.sessions (drive_1 (T.tape (slice_index_or drives.old.items 1 d)) (T.fault_count (slice_index_or drives.old.items 1 d))) result.0 (drive_1 (T.tape (slice_index_or drives.new.items 1 d)) (T.fault_count (slice_index_or drives.new.items 1 d))) result.1 }
+    ensures played { (d : T) → EndsPrepared prepared.table prepared.script prepared.sessions
+        (taping T.tape T.fault_count d drives.old.items drives.new.items) result.0 result.1 }
     ensures order { IsInLineOrder (history_in result.0) }
     ensures kinds { IsPlayStatus result.1 }
     ensures drives { (k : ℕ) (d : T) → k ≢ 1 → slice_index_or drives.new.items k d ≡ slice_index_or drives.old.items k d }

@@ -4,7 +4,8 @@ use Rattle.std.proofs.lemmas.List.{get_or-take}
 use Rattle.ol_online.specs.declared.status.Status.{Status}
 use Rattle.ol_online.proofs.CommandLaws.{played_on}
 use Rattle.ol_values.specs.declared.line.Line.{Line}
-use Rattle.ol_online.specs.Command.{PlayedTo, archive_line_in, drive_1, first_of}
+use Rattle.ol_online.specs.Command.{PlayedTo, archive_line_in, first_of}
+use Rattle.ol_online.specs.Views.{drive_1}
 use Rattle.ol_online.specs.Playing.{IsArchiveLine, IsNamed, IsSessionLine}
 use Rattle.ol_online.proofs.PlanLaws.{all_planned, archive_is, first_told, sessions_are}
 use Rattle.ol_online.proofs.work.play_on.Goals as goal
