@@ -24,7 +24,7 @@ use Rattle.ol_laws.proofs.JournalLaws.{same_self}
 use Rattle.ol_turn_laws.proofs.KnowsLaws.{turn_knows}
 use Rattle.ol_turn_laws.proofs.WaitingLaws.{takes_page}
 use Rattle.ol_turn_laws.specs.Spaces.{KnowsSpaces}
-use Rattle.ol_tape_laws.specs.Runs.{IsTurnOf, RunsToEnd, page_blocks, trailer_of}
+use Rattle.ol_tape_laws.specs.Runs.{Begins, HasNew, IsTurnOf, RunsToEnd, page_blocks, rest_blocks, whole_blocks}
 use Rattle.ol_tape_laws.proofs.BeganLaws.{Began, start_began}
 use Rattle.ol_tape_laws.proofs.CutLaws.{AreIn, KeepsArchive, beside_keeps, pages_in}
 
@@ -196,29 +196,33 @@ run_tape shelf k a (e ∷ h) m i num (p ∷ rest) own whole going knows cut are 
     ∙ run_tape shelf k a h n i (num + 1) (p ∷ rest) (keeps.archive ∙ own) whole (keeps.stopped ∙ going) keeps.knows keeps.cut are (ap (λ (l : List (ℕ × ℕ)). drop i l) keeps.pages ∙ is) steps.2 runs
     ∙ due_same k m n a i (p ∷ rest) are keeps
 
-pub run_rest : (shelf : Shelf) (k : ℕ) (a : Archive) (h : List Entry) (m : Machine) (num : ℕ) → archive_of m k ≡ Some a → a.passed ≡ 0 → a.broken ≡ None → m.stopped ≡ None → KnowsSpaces m → a.cut ≤ last_of m
-    → Steps shelf m num h → RunsToEnd shelf k (length (pages_of m a)) m h → tape shelf m h k ≡ page_blocks m a 1 (pages_of m a) ++ trailer_of m a ∷ []
-run_rest shelf k a h m num own none whole going knows cut steps runs =
-    let fresh : a ≡ passed_at a 0 = λ i. record a { passed = none i } in
+pub run_rest : (shelf : Shelf) (k : ℕ) (a : Archive) (h : List Entry) (m : Machine) (num : ℕ) → HasNew k a m → Steps shelf m num h → RunsToEnd shelf k (length (pages_of m a)) m h → tape shelf m h k ≡ rest_blocks m a
+run_rest shelf k a h m num new steps runs =
+    let same : a ≡ passed_at a 0 = λ i. record a { passed = new.fresh i } in
     let count : 0 + length (pages_of m a) + 1 ≡ length (pages_of m a) + 1 = omega arith in
-    run_tape shelf k a h m 0 num (pages_of m a) (own ∙ ap (λ (b : Archive). Some b) fresh) whole going knows cut (pages_in a m) refl steps runs
+    run_tape shelf k a h m 0 num (pages_of m a) (new.own ∙ ap (λ (b : Archive). Some b) same) new.whole new.going new.knows new.cut (pages_in a m) refl steps runs
     ∙ ap (λ (c : ℕ). page_blocks m a 1 (pages_of m a) ++ archive_end_at m trailer_kind c a ∷ []) count
 
-pub run_whole : (shelf : Shelf) (k level : ℕ) (names : List (List ℕ)) (a : Archive) (e : Entry) (h : List Entry) (m : Machine) (num : ℕ) → k - 1 < length m.archives → archive_of m k ≡ None → m.stopped ≡ None → KnowsSpaces m
-    → IsTurnOf k (ArchiveStart level names) e → archive_of (state_after shelf m e) k ≡ Some a → Steps shelf m num (e ∷ h)
-    → RunsToEnd shelf k (length (pages_of (state_after shelf m e) a)) (state_after shelf m e) h
-    → tape shelf m (e ∷ h) k ≡ archive_end_at (state_after shelf m e) header_kind 0 a ∷ page_blocks (state_after shelf m e) a 1 (pages_of (state_after shelf m e) a) ++ trailer_of (state_after shelf m e) a ∷ []
-run_whole shelf k level names a e h m num within none going knows is own steps runs =
+pub run_whole : (shelf : Shelf) (k : ℕ) (a : Archive) (e : Entry) (h : List Entry) (m : Machine) (num : ℕ) → Begins shelf k a m e → Steps shelf m num (e ∷ h)
+    → RunsToEnd shelf k (length (pages_of (state_after shelf m e) a)) (state_after shelf m e) h → tape shelf m (e ∷ h) k ≡ whole_blocks (state_after shelf m e) a
+run_whole shelf k a e h m num b steps runs =
     let n = state_after shelf m e in
-    let r = start_at m k level names (archive_of m k) in
-    let turns : turn shelf (given_by e.reply) m e.number e.actor e.event ≡ r = turn_is shelf m k (ArchiveStart level names) e going is in
+    let r = start_at m k b.level b.names (archive_of m k) in
+    let turns : turn shelf (given_by e.reply) m e.number e.actor e.event ≡ r = turn_is shelf m k (ArchiveStart b.level b.names) e b.going b.turn in
     let after : n ≡ r.1 = ap (λ (x : Reply × Machine). x.1) turns in
-    let began : Began m k a r = start_began m k level names a within none (ap (λ (x : Machine). archive_of x k) (sym after) ∙ own) in
+    let began : Began m k a r = start_began m k b.level b.names a b.within b.none (ap (λ (x : Machine). archive_of x k) (sym after) ∙ b.own) in
     let told : e.reply ≡ r.0 = steps.1 ∙ ap (λ (x : ℕ). (turn shelf (given_by e.reply) m x e.actor e.event).0) (sym steps.0) ∙ ap (λ (x : Reply × Machine). x.0) turns in
     let header : put_by k m n r.0 ≡ archive_end_at n header_kind 0 a ∷ [] =
     subst (λ (x : Machine). put_by k m x r.0 ≡ archive_end_at x header_kind 0 a ∷ []) (sym after) began.header in
     let cut : a.cut ≡ last_of n = began.cut ∙ ap (λ (x : Machine). last_of x) (sym after) in
+    let new : HasNew k a n = record {
+      own = b.own;
+      fresh = began.passed;
+      whole = began.broken;
+      going = ap (λ (x : Machine). x.stopped) after ∙ began.stopped ∙ b.going;
+      knows = turn_knows shelf (given_by e.reply) m e.number e.actor e.event b.knows;
+      cut = omega (arith, cut);
+    } in
     tape_cons shelf m e h k
-    ∙ ap (λ (l : List Block). l ++ tape shelf n h k) (put_own k m n e r.0 is.0 told ∙ header)
-    ∙ ap (λ (l : List Block). archive_end_at n header_kind 0 a ∷ l)
-    (run_rest shelf k a h n (num + 1) own began.passed began.broken (ap (λ (x : Machine). x.stopped) after ∙ began.stopped ∙ going) (turn_knows shelf (given_by e.reply) m e.number e.actor e.event knows) (omega (arith, cut)) steps.2 runs)
+    ∙ ap (λ (l : List Block). l ++ tape shelf n h k) (put_own k m n e r.0 b.turn.0 told ∙ header)
+    ∙ ap (λ (l : List Block). archive_end_at n header_kind 0 a ∷ l) (run_rest shelf k a h n (num + 1) new steps.2 runs)

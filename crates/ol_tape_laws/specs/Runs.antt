@@ -1,16 +1,17 @@
 -- The entries that take the pages of an archive to its end, and the blocks that they put on its drive.
-use Rattle.std.specs.Prelude.{List, None, [], false, length, map, suc, zero, ℕ, ◌+◌, ◌∷◌, ◌≡◌, ◌⊎◌}
+use Rattle.std.specs.Prelude.{List, None, Some, [], false, length, map, suc, zero, ℕ, ◌++◌, ◌+◌, ◌-◌, ◌<◌, ◌∷◌, ◌≡◌, ◌≤◌, ◌⊎◌}
 use Rattle.ol_values.specs.declared.event.Event.{Event}
-use Rattle.ol_values.specs.declared.event.Event.TheVariants.{ArchiveEnd, ArchiveTurn}
+use Rattle.ol_values.specs.declared.event.Event.TheVariants.{ArchiveEnd, ArchiveStart, ArchiveTurn}
 use Rattle.ol_values.specs.declared.history.Actor.TheVariants.{Archiver}
 use Rattle.ol_values.specs.declared.history.Entry.{Entry}
-use Rattle.ol_values.specs.Blocks.{Block, SavedPage, archive_page, trailer_kind}
+use Rattle.ol_values.specs.Blocks.{Block, SavedPage, archive_page, header_kind, trailer_kind}
 use Rattle.ol_rules.specs.Shelf.{Shelf}
 use Rattle.ol_model.specs.History.{state_after}
-use Rattle.ol_model.specs.Machine.{Archive, Machine, archive_of}
+use Rattle.ol_model.specs.Machine.{Archive, Machine, archive_of, last_of}
 use Rattle.ol_model.specs.Tape.{archive_end_at, is_at_drive, saved_at}
 use Rattle.ol_model.specs.Turns.{given_by}
 use Rattle.ol_model.specs.Waiting.{pages_of}
+use Rattle.ol_turn_laws.specs.Spaces.{KnowsSpaces}
 
 -- the entry is a turn of archiver k in which no device failed
 abbrev pub IsTurnOf : ℕ → Event → Entry → Type 0
@@ -40,3 +41,31 @@ page_blocks m a index pages = saved_blocks m.lasting.incarnation a.number index 
 -- the trailer of an archive
 abbrev pub trailer_of : Machine → Archive → Block
 trailer_of m a = archive_end_at m trailer_kind (length (pages_of m a) + 1) a
+
+-- the blocks of an archive behind its header: its pages in order, and its trailer
+abbrev pub rest_blocks : Machine → Archive → List Block
+rest_blocks m a = page_blocks m a 1 (pages_of m a) ++ trailer_of m a ∷ []
+
+-- all its blocks
+abbrev pub whole_blocks : Machine → Archive → List Block
+whole_blocks m a = archive_end_at m header_kind 0 a ∷ rest_blocks m a
+
+-- archiver k has this archive, of which no page has passed, and nothing keeps it from going on
+pub record HasNew (k : ℕ) (a : Archive) (m : Machine) : Type 0 where
+  pub own : archive_of m k ≡ Some a
+  pub fresh : a.passed ≡ 0
+  pub whole : a.broken ≡ None
+  pub going : m.stopped ≡ None
+  pub knows : KnowsSpaces m
+  pub cut : a.cut ≤ last_of m
+
+-- archiver k, one of those of the machine, had none, and by this entry begins this one
+pub record Begins (shelf : Shelf) (k : ℕ) (a : Archive) (m : Machine) (e : Entry) : Type 0 where
+  pub level : ℕ
+  pub names : List (List ℕ)
+  pub within : k - 1 < length m.archives
+  pub none : archive_of m k ≡ None
+  pub going : m.stopped ≡ None
+  pub knows : KnowsSpaces m
+  pub turn : IsTurnOf k (ArchiveStart level names) e
+  pub own : archive_of (state_after shelf m e) k ≡ Some a

@@ -1,28 +1,26 @@
 //! What an archive puts on its drive: each law is the contract of a function with an empty body.
 #![tactic(auto)]
 
-ghost use Rattle.std.specs.Prelude.{All, Bool, ◌≡◌, ◌≤◌, ◌<◌, ◌-◌, ◌++◌, ◌∷◌, List, None, Some, [], length, map, true, ℕ};
-ghost use Rattle.ol_values.specs.declared.event.Event.TheVariants.{ArchiveStart};
+ghost use Rattle.std.specs.Prelude.{All, Bool, ◌≡◌, ◌≤◌, ◌++◌, ◌∷◌, List, length, map, true, ℕ};
 ghost use Rattle.ol_values.specs.declared.history.Entry.{Entry};
 ghost use Rattle.ol_values.specs.declared.record.Record.{Record};
-ghost use Rattle.ol_values.specs.Blocks.{Saved, header_kind};
+ghost use Rattle.ol_values.specs.Blocks.{Saved};
 ghost use Rattle.ol_rules.specs.Saveset.{saveset};
 ghost use Rattle.ol_rules.specs.Shelf.{Shelf};
 ghost use Rattle.ol_rules.specs.Start.{IsStartOf};
 ghost use Rattle.ol_model.specs.History.{Steps, state_after};
-ghost use Rattle.ol_model.specs.Machine.{Archive, Machine, archive_of, config_of, last_of};
-ghost use Rattle.ol_model.specs.Tape.{archive_end_at, saved_at, tape};
+ghost use Rattle.ol_model.specs.Machine.{Archive, Machine, config_of};
+ghost use Rattle.ol_model.specs.Tape.{saved_at, tape};
 ghost use Rattle.ol_model.specs.Waiting.{pages_of};
-ghost use Rattle.ol_turn_laws.specs.Spaces.{KnowsSpaces};
-ghost use Rattle.ol_tape_laws.specs.Runs.{IsTurnOf, RunsToEnd, page_blocks, trailer_of};
+ghost use Rattle.ol_tape_laws.specs.Runs.{Begins, HasNew, RunsToEnd, rest_blocks, whole_blocks};
 
 /// An archiver that begins an archive and takes its pages to the end puts on its drive the header, each page of the archive in
 /// order with its image at the cut, and the trailer, whatever turns others take between, as long as no change of theirs breaks
 /// the archive and no fault stops the engine. The same of what follows the header. That a state knows its spaces holds of each
 /// that turns lead to (`spaces_stay_known` of `ol_turn_laws`).
 pub fn archive_puts_its_blocks()
-    ensures rest { (shelf : Shelf) (k : ℕ) (a : Archive) (h : List Entry) (m : Machine) (n : ℕ) → archive_of m k ≡ Some a → a.passed ≡ 0 → a.broken ≡ None → m.stopped ≡ None → KnowsSpaces m → a.cut ≤ last_of m → Steps shelf m n h → RunsToEnd shelf k (length (pages_of m a)) m h → tape shelf m h k ≡ page_blocks m a 1 (pages_of m a) ++ trailer_of m a ∷ [] }
-    ensures whole { (shelf : Shelf) (k level : ℕ) (names : List (List ℕ)) (a : Archive) (e : Entry) (h : List Entry) (m : Machine) (n : ℕ) → k - 1 < length m.archives → archive_of m k ≡ None → m.stopped ≡ None → KnowsSpaces m → IsTurnOf k (ArchiveStart level names) e → archive_of (state_after shelf m e) k ≡ Some a → Steps shelf m n (e ∷ h) → RunsToEnd shelf k (length (pages_of (state_after shelf m e) a)) (state_after shelf m e) h → tape shelf m (e ∷ h) k ≡ archive_end_at (state_after shelf m e) header_kind 0 a ∷ page_blocks (state_after shelf m e) a 1 (pages_of (state_after shelf m e) a) ++ trailer_of (state_after shelf m e) a ∷ [] }
+    ensures rest { (shelf : Shelf) (k : ℕ) (a : Archive) (h : List Entry) (m : Machine) (n : ℕ) → HasNew k a m → Steps shelf m n h → RunsToEnd shelf k (length (pages_of m a)) m h → tape shelf m h k ≡ rest_blocks m a }
+    ensures whole { (shelf : Shelf) (k : ℕ) (a : Archive) (e : Entry) (h : List Entry) (m : Machine) (n : ℕ) → Begins shelf k a m e → Steps shelf m n (e ∷ h) → RunsToEnd shelf k (length (pages_of (state_after shelf m e) a)) (state_after shelf m e) h → tape shelf m (e ∷ h) k ≡ whole_blocks (state_after shelf m e) a }
 {}
 
 /// Behind the start of a journal, the pages of an archive of spaces that are up, with their images at its cut, are the saveset of

@@ -1,7 +1,7 @@
 -- What the turns of a session make of the seats and the open transactions, and which records the seats permit.
 use Rattle.std.specs.List.{list_any, range_with_len}
 use Rattle.std.specs.Option.{option_map}
-use Rattle.std.specs.Prelude.{Bool, List, None, Option, Some, [], drop, false, find, if◌then◌else◌, is_some, length, not, refl, replicate, slice_get, slice_set, true, ℕ, ◌&&◌, ◌++◌, ◌+◌, ◌-◌, ◌<◌, ◌==◌, ◌||◌, ◌∷◌, ◌≡◌}
+use Rattle.std.specs.Prelude.{Bool, List, None, Option, Some, [], drop, false, find, if◌then◌else◌, length, not, refl, replicate, slice_get, slice_set, true, ℕ, ◌&&◌, ◌++◌, ◌+◌, ◌-◌, ◌<◌, ◌==◌, ◌||◌, ◌∷◌, ◌≡◌}
 use Rattle.std.proofs.Common.{ap, arith, eq-eqb, inl, inr, ne_eqb, subst, suc, sym, zero, ◌∙◌}
 use Rattle.std.proofs.Math.Bool.{or_comm}
 use Rattle.std.proofs.lemmas.Bool.{cases_Bool, or_parts, or_right}
@@ -15,14 +15,14 @@ use Rattle.ol_values.specs.declared.row.Row.{Row}
 use Rattle.ol_values.specs.Config.{Config, has_place}
 use Rattle.ol_rules.specs.Journal.{same_place}
 use Rattle.ol_rules.specs.Locks.{Holding, holder_of, holding_of, in_way, is_among, least_other, owns, shares}
-use Rattle.ol_rules.specs.Sound.{Before, IsNewChange, IsNewUndo, IsOne, Meets, Sound, is_free_for, is_value, start}
+use Rattle.ol_rules.specs.Sound.{Before, IsNewChange, IsNewUndo, IsOne, Meets, Sound, is_free_for, start}
 use Rattle.ol_rules.specs.Transactions.{Ascending, Txn, begun as begun_txn, open_at, txn_numbered, txns_after, with_change, with_undo, without_txn}
 use Rattle.ol_laws.proofs.Found.{one_as}
 use Rattle.ol_laws.proofs.LockLaws.{same_place_is}
 use Rattle.ol_laws.proofs.SoundLaws.{fine, txns_of}
 use Rattle.ol_laws.proofs.TxnLaws.{distinct}
 use Rattle.ol_txn.specs.Seats.{IsSession, Seat, begun, begun_seat, changing, empty_seat, filled, forgotten_seat, last_of, no_locks, noted_seat, owned_more, owning, pending_of, reserved_seat, seat_of, shared_more, sharing, table_of, undoing, undone_seat, with_seat}
-use Rattle.ol_txn.specs.Telling.{IsOf, Tells, held}
+use Rattle.ol_txn.specs.Telling.{IsOf, MayChange, Tells, held}
 use Rattle.ol_txn.proofs.SeatLaws.{holding_at}
 use Rattle.ol_txn.proofs.TellingLaws.{all_told, held_open, one_held, tells_begun, tells_ended, tells_kept, tells_step, told_room, unchanged, within}
 
@@ -204,10 +204,17 @@ open_as : (P : Txn → Type 0) (b : Before) (seats : List Seat) (k n : ℕ) (h :
 open_as P b seats k n h asc e is told gives = subst (λ m. IsOne (txn_numbered m b.txns) P) is (one_as (IsOf h) P (txn_numbered h.number b.txns) gives (told_open b.txns seats k h asc e told))
 
 pub may_change : (c : Config) (b : Before) (seats : List Seat) (k n : ℕ) (h : Holding) (rid : Rid) (before after : Option Row) → length seats ≡ 16 → Ascending b.txns → (seat_of seats k).holding ≡ Some h → h.number ≡ n
-    → h.undone ≡ false → holder_of (table_of seats) k rid true ≡ None → before ≡ b.row rid → (is_some before || is_some after) ≡ true → is_value after ≡ true → has_place c rid ≡ true → Tells b.txns (table_of seats) → Meets c b (Change n rid before after)
-may_change c b seats k n h rid before after long asc e is forward none held something value there told =
+    → MayChange c b (table_of seats) k h rid before after → Tells b.txns (table_of seats) → Meets c b (Change n rid before after)
+may_change c b seats k n h rid before after long asc e is may told =
     open_as (IsNewChange c b n rid before after) b seats k n h asc e is told
-    (λ t of. record { held = held; something = something; value = value; forward = sym of.undone ∙ forward; alone = told_free b seats k n h rid long e is none told; there = there })
+    (λ t of. record {
+      held = may.held;
+      something = may.something;
+      value = may.value;
+      forward = sym of.undone ∙ may.forward;
+      alone = told_free b seats k n h rid long e is may.alone told;
+      there = may.there;
+    })
 
 pub may_undo : (c : Config) (b : Before) (seats : List Seat) (k n : ℕ) (h : Holding) (rid : Rid) (value : Option Row) → Ascending b.txns → (seat_of seats k).holding ≡ Some h → h.number ≡ n
     → last_of (seat_of seats k) ≡ Some (rid, value) → has_place c rid ≡ true → Tells b.txns (table_of seats) → Meets c b (Undo n rid value)

@@ -1,9 +1,12 @@
 -- That the sessions hold what the journal's open transactions are.
 use Rattle.std.specs.List.{list_any}
-use Rattle.std.specs.Prelude.{All, List, None, Option, Some, [], slice_index_or, slice_set, ℕ, ◌<◌, ◌∷◌, ◌≡◌}
+use Rattle.std.specs.Prelude.{List, None, Option, Some, [], false, is_some, slice_index_or, slice_set, true, ℕ, ◌||◌, ◌∷◌, ◌≡◌}
 use Rattle.ol_values.specs.declared.record.Rid.{Rid}
+use Rattle.ol_values.specs.declared.row.Row.{Row}
+use Rattle.ol_values.specs.Config.{Config, has_place}
 use Rattle.ol_rules.specs.Journal.{same_place}
-use Rattle.ol_rules.specs.Locks.{Holding, is_among}
+use Rattle.ol_rules.specs.Locks.{Holding, holder_of, is_among}
+use Rattle.ol_rules.specs.Sound.{Before, is_value}
 use Rattle.ol_rules.specs.Transactions.{Txn}
 
 -- a session holds this transaction, and owns the places that it changed
@@ -30,3 +33,12 @@ Tells (t ∷ txns) table = (i : ℕ) × (h : Holding) × (held table i ≡ Some 
 abbrev pub first_number : List Txn → Option ℕ
 first_number [] = None
 first_number (t ∷ txns) = Some t.number
+
+-- session k, which holds this, may change the slot so
+pub record MayChange (c : Config) (b : Before) (table : List (Option Holding)) (k : ℕ) (h : Holding) (rid : Rid) (before after : Option Row) : Type 0 where
+  pub forward : h.undone ≡ false
+  pub alone : holder_of table k rid true ≡ None
+  pub held : before ≡ b.row rid
+  pub something : (is_some before || is_some after) ≡ true
+  pub value : is_value after ≡ true
+  pub there : has_place c rid ≡ true

@@ -11,7 +11,7 @@ ghost use Rattle.ol_rules.specs.Locks.{Holding, holder_of, low_in, owed_in};
 ghost use Rattle.ol_rules.specs.Sound.{Before, IsOne, Meets, Sound, is_free_for, is_value};
 ghost use Rattle.ol_rules.specs.Transactions.{Ascending, Txn, low_of, open_at, owed, txn_numbered, txns_after};
 ghost use Rattle.ol_txn.specs.Seats.{IsSession, Seat as SeatValue, begun_seat, forgotten_seat, last_of, no_locks, noted_seat, owned_more, reserved_seat, seat_of, shared_more, table_of, undone_seat, with_seat};
-ghost use Rattle.ol_txn.specs.Telling.{IsOf, Tells, first_number};
+ghost use Rattle.ol_txn.specs.Telling.{IsOf, MayChange, Tells, first_number};
 
 /// Where the sessions hold the open transactions, they do after each record and the turn of its session.
 /// Before the first record they do, and sharing a slot or reserving room tells the journal nothing.
@@ -45,7 +45,7 @@ pub fn table_answers_for_transactions()
 /// way, undo its newest change, commit with no change taken back, and end a roll back with none left.
 pub fn table_permits_records()
     ensures begin { (c : Config) (b : Before) (seats : List SeatValue) (k n : ℕ) → length seats ≡ 16 → IsSession k → (seat_of seats k).holding ≡ None → n ≡ b.last + 1 → Tells b.txns (table_of seats) → Meets c b (Begin n) }
-    ensures change { (c : Config) (b : Before) (seats : List SeatValue) (k n : ℕ) (h : Holding) (rid : Rid) (before after : Option RowValue) → length seats ≡ 16 → Ascending b.txns → (seat_of seats k).holding ≡ Some h → h.number ≡ n → h.undone ≡ false → holder_of (table_of seats) k rid true ≡ None → before ≡ b.row rid → (is_some before || is_some after) ≡ true → is_value after ≡ true → has_place c rid ≡ true → Tells b.txns (table_of seats) → Meets c b (Change n rid before after) }
+    ensures change { (c : Config) (b : Before) (seats : List SeatValue) (k n : ℕ) (h : Holding) (rid : Rid) (before after : Option RowValue) → length seats ≡ 16 → Ascending b.txns → (seat_of seats k).holding ≡ Some h → h.number ≡ n → MayChange c b (table_of seats) k h rid before after → Tells b.txns (table_of seats) → Meets c b (Change n rid before after) }
     ensures undo { (c : Config) (b : Before) (seats : List SeatValue) (k n : ℕ) (h : Holding) (rid : Rid) (value : Option RowValue) → Ascending b.txns → (seat_of seats k).holding ≡ Some h → h.number ≡ n → last_of (seat_of seats k) ≡ Some (rid, value) → has_place c rid ≡ true → Tells b.txns (table_of seats) → Meets c b (Undo n rid value) }
     ensures commit { (c : Config) (b : Before) (seats : List SeatValue) (k n : ℕ) (h : Holding) → Ascending b.txns → (seat_of seats k).holding ≡ Some h → h.number ≡ n → h.undone ≡ false → Tells b.txns (table_of seats) → Meets c b (Commit n) }
     ensures rolled { (c : Config) (b : Before) (seats : List SeatValue) (k n : ℕ) (h : Holding) → Ascending b.txns → (seat_of seats k).holding ≡ Some h → h.number ≡ n → h.pending ≡ [] → Tells b.txns (table_of seats) → Meets c b (Rolled n) }

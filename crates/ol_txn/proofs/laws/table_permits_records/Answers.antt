@@ -6,7 +6,7 @@ returns-clause-begin c = λ m b seats k n long is idle number told. may_begin m 
 
 pub returns-clause-change : goal.returns-clause-change
 returns-clause-change c =
-    λ m b seats k n h rid before after long order e is forward none held something value there told. may_change m b seats k n h rid before after long order e is forward none held something value there told
+    λ m b seats k n h rid before after long order e is may told. may_change m b seats k n h rid before after long order e is may told
 
 pub returns-clause-undo : goal.returns-clause-undo
 returns-clause-undo c = λ m b seats k n h rid value order e is newest there told. may_undo m b seats k n h rid value order e is newest there told
