@@ -8,8 +8,8 @@ use Rattle.ol_rules.specs.Saveset.{places}
 use Rattle.ol_model.specs.History.{played}
 use Rattle.ol_model.specs.Machine.{first_free}
 use Rattle.ol_model.specs.Waiting.{pages_of}
-use Rattle.ol_worked.specs.Further.{log_files, log_files_prints, log_files_tape_0, taken_back, taken_back_prints, three_levels, three_levels_prints, three_levels_tape_1, two_archivers, two_archivers_prints, two_archivers_tape_1, two_archivers_tape_2, two_sessions, two_sessions_prints, taped}
-use Rattle.ol_worked.specs.Small.{printed, small}
+use Rattle.ol_worked.specs.Further.{log_files, log_files_prints, log_files_tape_0, taken_back, taken_back_prints, three_levels, three_levels_prints, three_levels_tape_1, two_archivers, two_archivers_prints, two_archivers_tape_1, two_archivers_tape_2, two_sessions, two_sessions_prints}
+use Rattle.ol_worked.specs.Small.{printed, small, taped}
 
 pub two_sessions_printed : printed (small 20 2) two_sessions ≡ two_sessions_prints
 unfolding first_free pages_of page_from places config_text played digits slots_told

@@ -3,3 +3,4 @@ pub mod SessionsPlayed
 pub mod RestoresPlayed
 pub mod FurtherPlayed
 pub mod FaultsPlayed
+pub mod ArchivesTaped

@@ -1,6 +1,6 @@
 -- What these restores give, computed.
 use Rattle.std.specs.Fmt.{digits}
-use Rattle.std.specs.Prelude.{Err, List, Ok, [], codes, refl, ℕ, ◌∷◌, ◌≡◌}
+use Rattle.std.specs.Prelude.{Err, List, Ok, Some, [], codes, refl, ℕ, ◌∷◌, ◌≡◌}
 use Rattle.ol_values.specs.declared.event.Reply.TheVariants.{DamagedVolume, MissingLog}
 use Rattle.ol_values.specs.Config.{config_text}
 use Rattle.ol_values.specs.Text.{slots_told, text}
@@ -13,7 +13,7 @@ use Rattle.ol_model.specs.Listing.{list_text}
 use Rattle.ol_model.specs.Machine.{first_free, row_in}
 use Rattle.ol_model.specs.Opening.{opened}
 use Rattle.ol_model.specs.Waiting.{pages_of}
-use Rattle.ol_worked.specs.Restores.{all_after, archived_again, archives_in, end_or, last_journal, last_shelf, listed_after, log_file_lost, lost_history, machine_after, open_at_cut, plan_for, plan_or, restored_warm, row_behind_archive, spoilt, tapes_after, three_spaces, two_files_backed, warm_machine, warm_shelf, whole_journal, without_log}
+use Rattle.ol_worked.specs.Restores.{all_after, archived_again, archived_twice, archives_in, damaged_outside, end_or, last_journal, last_shelf, listed_after, log_file_lost, lost_history, machine_after, open_at_cut, plan_for, plan_or, restored_warm, row_behind_archive, salvaged_heads, spoilt, tapes_after, three_spaces, two_files_backed, two_log_pages, warm_machine, warm_shelf, whole_journal, without_log}
 use Rattle.ol_worked.specs.Small.{small}
 
 pub open_at_cut_ends : end_or (plan_for (small 20 2) (all_after (small 20 2) open_at_cut) (1 ∷ [])) ≡ Ok 5
@@ -43,6 +43,22 @@ log_not_needed = refl
 pub page_damaged : end_or (plan_for (small 20 2) (spoilt 1 (all_after (small 20 2) row_behind_archive)) (1 ∷ [])) ≡ Err (DamagedVolume 1 1 1)
 unfolding first_free pages_of page_from places config_text played digits slots_told plan_of plan_to objects list_text opened
 page_damaged = refl
+
+pub salvaged_blocks : salvaged_heads (all_after (small 20 2) row_behind_archive) ≡ two_log_pages
+unfolding first_free pages_of page_from places config_text played digits slots_told plan_of plan_to objects list_text opened
+salvaged_blocks = refl
+
+pub trailer_damaged : damaged_outside (spoilt 2 (all_after (small 20 2) row_behind_archive)) ≡ Some (1, 1, 2)
+unfolding first_free pages_of page_from places config_text played digits slots_told plan_of plan_to objects list_text opened
+trailer_damaged = refl
+
+pub damaged_page_not_needed : end_or (plan_for (small 20 2) (spoilt 1 (all_after (small 20 2) archived_twice)) (1 ∷ [])) ≡ Ok 6
+unfolding first_free pages_of page_from places config_text played digits slots_told plan_of plan_to objects list_text opened
+damaged_page_not_needed = refl
+
+pub other_trailer_damaged : damaged_outside (spoilt 2 (all_after (small 20 2) archived_twice)) ≡ Some (1, 1, 2)
+unfolding first_free pages_of page_from places config_text played digits slots_told plan_of plan_to objects list_text opened
+other_trailer_damaged = refl
 
 pub first_end : end_or (plan_for three_spaces (tapes_after three_spaces log_file_lost) (2 ∷ [])) ≡ Ok 12
 unfolding first_free pages_of page_from places config_text played digits slots_told plan_of plan_to objects list_text opened

@@ -1,16 +1,10 @@
 -- Further plays, whose texts and tapes another program worked out.
-use Rattle.std.specs.Prelude.{List, [], codes, map, ℕ, ◌∷◌}
+use Rattle.std.specs.Prelude.{List, [], codes, ℕ, ◌∷◌}
 use Rattle.ol_values.specs.declared.event.Target.TheVariants.{At as AtPlace, Reg}
 use Rattle.ol_values.specs.declared.history.Actor.TheVariants.{Archiver, Backer, Checkpointer, Flusher, Session}
 use Rattle.ol_values.specs.declared.line.Form.TheVariants.{Archive as ArchiveLine, Backup as BackupLine, Begin as BeginLine, Cancel as CancelLine, Checkpoint as CheckpointLine, Clean as CleanLine, Commit as CommitLine, Delete as DeleteLine, End as EndLine, Insert as InsertLine, Read as ReadLine, Rollback as RollbackLine, Start as StartLine, Switch as SwitchLine, Turn as TurnLine, Update as UpdateLine}
 use Rattle.ol_values.specs.declared.line.Line.{Line}
-use Rattle.ol_values.specs.Blocks.{Block}
-use Rattle.ol_values.specs.Config.{Config}
-use Rattle.ol_worked.specs.Small.{blocks_on, line}
-
--- the head of a block in numbers: kind, object, incarnation, number, index, and the three numbers by kind
-abbrev pub head_numbers : Block → List ℕ
-head_numbers b = b.kind ∷ b.object ∷ b.incarnation ∷ b.number ∷ b.index ∷ b.a ∷ b.b ∷ b.c ∷ []
+use Rattle.ol_worked.specs.Small.{line}
 
 -- two sessions that share, own and give back the same slots
 abbrev pub two_sessions : List Line
@@ -164,7 +158,3 @@ log_files_tape_0 =
     ∷ (3 ∷ 2 ∷ 1 ∷ 1 ∷ 1 ∷ 1 ∷ 2 ∷ 0 ∷ [])
     ∷ (4 ∷ 2 ∷ 1 ∷ 1 ∷ 2 ∷ 1 ∷ 2 ∷ 0 ∷ [])
     ∷ []
-
--- the heads of the blocks that a play puts on a drive
-abbrev pub taped : Config → List Line → ℕ → List (List ℕ)
-taped c lines drive = map head_numbers (blocks_on c lines drive)

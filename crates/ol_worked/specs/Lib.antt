@@ -4,3 +4,4 @@ pub mod Sessions
 pub mod Restores
 pub mod Further
 pub mod Faults
+pub mod ArchiveTapes

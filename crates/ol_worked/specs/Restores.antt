@@ -11,15 +11,15 @@ use Rattle.ol_values.specs.declared.record.Record.{Record}
 use Rattle.ol_values.specs.Blocks.{Block, mark}
 use Rattle.ol_values.specs.Config.{Config}
 use Rattle.ol_rules.specs.Journal.{row_at}
-use Rattle.ol_rules.specs.Plan.{Chain, Plan, plan_of}
+use Rattle.ol_rules.specs.Plan.{Chain, Plan, bad_outside, plan_of}
 use Rattle.ol_rules.specs.Restored.{restored, restored_journal, salvaged, to_restore}
-use Rattle.ol_rules.specs.Shelf.{Object, Shelf}
+use Rattle.ol_rules.specs.Shelf.{Object, Placed, Shelf}
 use Rattle.ol_model.specs.History.{played, state_at}
 use Rattle.ol_model.specs.Listing.{list_text}
 use Rattle.ol_model.specs.Machine.{Machine, formatted}
 use Rattle.ol_model.specs.Opening.{last_flushed, opened_restored}
 use Rattle.ol_model.specs.Tape.{tape}
-use Rattle.ol_worked.specs.Small.{line, small}
+use Rattle.ol_worked.specs.Small.{head_numbers, line, small}
 
 -- ---- shelves
 
@@ -106,6 +106,10 @@ row_behind_archive =
     ∷ line (Session 1) 6 (InsertLine 1 (codes "data1") (codes "bob"))
     ∷ line (Session 1) 7 CommitLine
     ∷ []
+
+-- and both are archived again
+abbrev pub archived_twice : List Line
+archived_twice = row_behind_archive ++ line (Archiver 1) 8 (ArchiveLine 0 ((codes "root") ∷ (codes "data1") ∷ [])) ∷ []
 
 -- an archive, and so many rows behind it that two log files are backed up
 abbrev pub two_files_backed : List Line
@@ -242,6 +246,23 @@ without_log uniq shelf =
 -- the shelf with a block of each volume of drive 1 unreadable
 abbrev pub spoilt : ℕ → Shelf → Shelf
 spoilt block shelf = slice_set shelf 1 (map (λ (v : List (Option Block)). slice_set v block None) (slice_index_or shelf 1 []))
+
+-- the heads of the readable blocks on drive 0
+abbrev pub salvaged_heads : Shelf → List (List ℕ)
+salvaged_heads shelf = flat_map (λ (v : List (Option Block)). flat_map (λ (b : Option Block). elim b [ None ↦ [] | Some x ↦ head_numbers x ∷ [] ]) v) (slice_index_or shelf 0 [])
+
+-- a log object of two pages, each with the records of one flush
+abbrev pub two_log_pages : List (List ℕ)
+two_log_pages =
+    (1 ∷ 2 ∷ 1 ∷ 1 ∷ 0 ∷ 1 ∷ 6 ∷ 0 ∷ [])
+    ∷ (3 ∷ 2 ∷ 1 ∷ 1 ∷ 1 ∷ 1 ∷ 3 ∷ 0 ∷ [])
+    ∷ (3 ∷ 2 ∷ 1 ∷ 1 ∷ 2 ∷ 4 ∷ 3 ∷ 0 ∷ [])
+    ∷ (4 ∷ 2 ∷ 1 ∷ 1 ∷ 3 ∷ 1 ∷ 6 ∷ 0 ∷ [])
+    ∷ []
+
+-- where the first block stands that is none and belongs to no object: drive, volume and block
+abbrev pub damaged_outside : Shelf → Option (ℕ × ℕ × ℕ)
+damaged_outside shelf = option_map (λ (p : Placed). (p.drive, p.volume, p.block)) (bad_outside shelf)
 
 -- ---- behind a restore
 

@@ -1,9 +1,10 @@
 -- Small installations, for worked examples.
-use Rattle.std.specs.Prelude.{List, [], codes, ℕ, ◌∷◌}
+use Rattle.std.specs.Prelude.{List, None, Option, [], codes, flat_map, map, slice_index_or, ℕ, ◌∷◌}
 use Rattle.ol_values.specs.declared.history.Actor.{Actor}
 use Rattle.ol_values.specs.declared.line.Form.{Form}
 use Rattle.ol_values.specs.declared.line.Line.{Line}
-use Rattle.ol_values.specs.Blocks.{Block}
+use Rattle.ol_values.specs.declared.row.Row.{Row}
+use Rattle.ol_values.specs.Blocks.{Block, HeadHeld, PageHeld, Payload, Saved}
 use Rattle.ol_values.specs.Config.{Config}
 use Rattle.ol_values.specs.Text.{text}
 use Rattle.ol_model.specs.History.{played}
@@ -32,3 +33,29 @@ printed c lines = text c (played 400 [] (formatted c) lines)
 -- the blocks that it puts on a drive
 abbrev pub blocks_on : Config → List Line → ℕ → List Block
 blocks_on c lines drive = tape [] (formatted c) (played 400 [] (formatted c) lines) drive
+
+-- the head of a block in numbers: kind, object, incarnation, number, index, and the three numbers by kind
+abbrev pub head_numbers : Block → List ℕ
+head_numbers b = b.kind ∷ b.object ∷ b.incarnation ∷ b.number ∷ b.index ∷ b.a ∷ b.b ∷ b.c ∷ []
+
+-- the heads of the blocks that a play puts on a drive
+abbrev pub taped : Config → List Line → ℕ → List (List ℕ)
+taped c lines drive = map head_numbers (blocks_on c lines drive)
+
+-- the stamp of a page on tape, and what its first slot holds
+abbrev pub page_told : Payload → List (ℕ × Option Row)
+page_told (PageHeld page) = (page.stamp, slice_index_or page.slots 0 None) ∷ []
+page_told _ = []
+
+-- the same of all pages that a play puts on a drive
+abbrev pub pages_on : Config → List Line → ℕ → List (ℕ × Option Row)
+pages_on c lines drive = flat_map (λ (b : Block). page_told b.payload) (blocks_on c lines drive)
+
+-- the spaces in an archive head
+abbrev pub spaces_told : Payload → List (List Saved)
+spaces_told (HeadHeld head) = head.spaces ∷ []
+spaces_told _ = []
+
+-- the same of all headers and trailers that a play puts on a drive
+abbrev pub spaces_on : Config → List Line → ℕ → List (List Saved)
+spaces_on c lines drive = flat_map (λ (b : Block). spaces_told b.payload) (blocks_on c lines drive)

@@ -1,8 +1,8 @@
 //! Further plays, whose texts and tapes another program worked out.
 
 ghost use Rattle.std.specs.Prelude.{◌≡◌};
-ghost use Rattle.ol_worked.specs.Further.{log_files, log_files_prints, log_files_tape_0, taken_back, taken_back_prints, three_levels, three_levels_prints, three_levels_tape_1, two_archivers, two_archivers_prints, two_archivers_tape_1, two_archivers_tape_2, two_sessions, two_sessions_prints, taped};
-ghost use Rattle.ol_worked.specs.Small.{printed, small};
+ghost use Rattle.ol_worked.specs.Further.{log_files, log_files_prints, log_files_tape_0, taken_back, taken_back_prints, three_levels, three_levels_prints, three_levels_tape_1, two_archivers, two_archivers_prints, two_archivers_tape_1, two_archivers_tape_2, two_sessions, two_sessions_prints};
+ghost use Rattle.ol_worked.specs.Small.{printed, small, taped};
 
 /// What these plays print, and what stands on their tapes: sessions in conflict, rollback, levels of archives, two
 /// archivers, and log files that are closed, backed up and reused.

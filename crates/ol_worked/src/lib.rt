@@ -7,7 +7,7 @@ mod further;
 mod restores;
 mod sessions;
 
-pub use archives::archives_print;
+pub use archives::{archives_print, archives_put};
 pub use faults::faults_are;
 pub use further::further_print;
 pub use restores::restores_give;

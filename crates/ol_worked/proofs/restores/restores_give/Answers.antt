@@ -1,4 +1,4 @@
-use Rattle.ol_worked.proofs.RestoresPlayed.{down_listed, first_end, goes_on, last_end, last_lists, log_missing, log_not_needed, open_at_cut_ends, open_at_cut_lists, page_damaged, restored_warm_prints, row_behind_ends, row_behind_lists, void_archive_not_used, warm_ends}
+use Rattle.ol_worked.proofs.RestoresPlayed.{damaged_page_not_needed, down_listed, first_end, goes_on, last_end, last_lists, log_missing, log_not_needed, open_at_cut_ends, open_at_cut_lists, other_trailer_damaged, page_damaged, restored_warm_prints, row_behind_ends, row_behind_lists, salvaged_blocks, trailer_damaged, void_archive_not_used, warm_ends}
 use Rattle.ol_worked.proofs.restores.restores_give.Goals as goal
 
 pub returns-clause-open_at_cut_ends : goal.returns-clause-open_at_cut_ends
@@ -21,6 +21,18 @@ returns-clause-log_not_needed c = log_not_needed
 
 pub returns-clause-page_damaged : goal.returns-clause-page_damaged
 returns-clause-page_damaged c = page_damaged
+
+pub returns-clause-salvaged_blocks : goal.returns-clause-salvaged_blocks
+returns-clause-salvaged_blocks c = salvaged_blocks
+
+pub returns-clause-trailer_damaged : goal.returns-clause-trailer_damaged
+returns-clause-trailer_damaged c = trailer_damaged
+
+pub returns-clause-damaged_page_not_needed : goal.returns-clause-damaged_page_not_needed
+returns-clause-damaged_page_not_needed c = damaged_page_not_needed
+
+pub returns-clause-other_trailer_damaged : goal.returns-clause-other_trailer_damaged
+returns-clause-other_trailer_damaged c = other_trailer_damaged
 
 pub returns-clause-first_end : goal.returns-clause-first_end
 returns-clause-first_end c = first_end
