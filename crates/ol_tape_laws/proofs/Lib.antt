@@ -1,4 +1,5 @@
 pub mod BeganLaws
 pub mod CutLaws
+pub mod ExampleLaws
 pub mod RunLaws
 pub mod SavesetLaws
