@@ -14,7 +14,7 @@ use Rattle.std.proofs.lemmas.Map.Keys.{IsDistinct-head, IsDistinct-tail, apart_f
 use Rattle.std.proofs.lemmas.Slice.Eq.{bytes_eq-Decides}
 use Rattle.ol_values.specs.Config.{Config, SpaceConfig, area_pages, begins_small, config_text, is_digit, is_name, is_small_letter, number_words, space_at, space_line, space_named, unnamed}
 use Rattle.ol_chunks.specs.Limits.{AreInLimits, AreSpaces, IsConfig, IsSpace, chunk_count, first_chunk, names_of, reserved_pages}
-use Rattle.ol_chunks.specs.Reading.{Reading, after_line, before_read, config_from, config_of, has_pages, has_place, has_room, is_new_name, line_then, lines_of, logs_read, numbers_of, nothing_read, physical_read, space_read, with_logs, with_physical, with_space, words_of, words_read}
+use Rattle.ol_chunks.specs.Reading.{Reading, after_line, before_read, config_from, config_in_text, has_pages, has_place_left, has_room, is_new_name, line_then, lines_in_text, logs_read, numbers_in_words, nothing_read, physical_read, space_read, with_logs, with_physical, with_space_read, words_of, words_read}
 use Rattle.ol_chunks.specs.declared.draft.Due.TheVariants.{Before, Logs, Nothing, Spaces}
 use Rattle.ol_chunks.proofs.Chunks.{space_is}
 use Rattle.ol_words.proofs.Decimals.{own}
@@ -68,12 +68,12 @@ words_again word (n ∷ numbers) lacks h =
     slice_split_at (λ b. b == 32) word 32 (decimal n ++ number_words numbers) (All-from_recursion (λ b. (b == 32) ≡ false) word lacks) refl
     ∙ ap (λ (l : List (List ℕ)). word ∷ l) (words_again (decimal n) numbers (lacks_number 32 n refl h.0.1) h.1)
 
-line_again : (k : ℕ) (r next : Reading) (line text : List ℕ) (c : Config) → Lacks 10 line → after_line r line ≡ Some next → config_from false (k + 1) next (lines_of text) ≡ Ok c
-    → config_from false k r (lines_of (line ++ 10 ∷ text)) ≡ Ok c
+line_again : (k : ℕ) (r next : Reading) (line text : List ℕ) (c : Config) → Lacks 10 line → after_line r line ≡ Some next → config_from false (k + 1) next (lines_in_text text) ≡ Ok c
+    → config_from false k r (lines_in_text (line ++ 10 ∷ text)) ≡ Ok c
 line_again k r next line text c lacks e then_read =
     ap (config_from false k r) (slice_split_at (λ b. b == 10) line 10 text (All-from_recursion (λ b. (b == 10) ≡ false) line lacks) refl)
-    ∙ line_from false k r line (lines_of text) (lines_cons text)
-    ∙ ap (λ o. line_then k o (λ read. config_from false (k + 1) read (lines_of text))) e
+    ∙ line_from false k r line (lines_in_text text) (lines_cons text)
+    ∙ ap (λ o. line_then k o (λ read. config_from false (k + 1) read (lines_in_text text))) e
     ∙ then_read
 
 -- ---- names again
@@ -135,12 +135,12 @@ root_again true name h = (bytes_eq-Decides name (codes "root")).1 (h refl)
 root_again false name h = refl
 
 space_fits : (c : Config) (s : SpaceConfig) (more : List SpaceConfig) → Follow c (s ∷ more)
-    → (has_place c.spaces (length s.chunks) && (is_new_name c.spaces s.name && has_pages (length c.spaces) s.chunks)) ≡ true
+    → (has_place_left c.spaces (length s.chunks) && (is_new_name c.spaces s.name && has_pages (length c.spaces) s.chunks)) ≡ true
 space_fits c s more f =
     let is = f.spaces.0 in
     let first : reserved_pages (length c.spaces) < first_chunk s = subst (λ n. reserved_pages n < first_chunk s) (let e : length c.spaces + 0 ≡ length c.spaces = omega arith in e) (f.room 0 (omega arith)) in
     let count : chunk_count c.spaces + length s.chunks ≤ 31 = omega (arith, f.chunks, sum_by-cons (λ (t : SpaceConfig). length t.chunks) s more) in
-    and_from (has_place c.spaces (length s.chunks)) (is_new_name c.spaces s.name && has_pages (length c.spaces) s.chunks)
+    and_from (has_place_left c.spaces (length s.chunks)) (is_new_name c.spaces s.name && has_pages (length c.spaces) s.chunks)
     (and_from (nat_lt (length c.spaces) 16) (nat_le (chunk_count c.spaces + length s.chunks) 31) (lt-ltb (length c.spaces) 16 (omega (arith, f.few))) (le-leb (chunk_count c.spaces + length s.chunks) 31 count))
     (and_from (is_new_name c.spaces s.name) (has_pages (length c.spaces) s.chunks)
     (and_from (is_name s.name) ((not (length c.spaces == 0) || bytes_eq s.name (codes "root")) && not (list_any (λ (t : SpaceConfig). bytes_eq s.name t.name) c.spaces)) is.name
@@ -155,7 +155,7 @@ abbrev space_words : SpaceConfig → List ℕ
 space_words s = codes "space " ++ s.name ++ number_words s.chunks
 
 space_again : (c : Config) (s : SpaceConfig) (more : List SpaceConfig) → Follow c (s ∷ more)
-    → after_line (record { due = Spaces; config = c }) (space_words s) ≡ Some (record { due = Spaces; config = with_space c s })
+    → after_line (record { due = Spaces; config = c }) (space_words s) ≡ Some (record { due = Spaces; config = with_space_read c s })
 space_again c s more f =
     let is = f.spaces.0 in
     let words : words_of (s.name ++ number_words s.chunks) ≡ s.name ∷ map decimal s.chunks = words_again s.name s.chunks (lacks_by is_name_byte 32 refl s.name (letters s.name is.name)) is.chunks in
@@ -168,7 +168,7 @@ lacks_space s space is =
     let name : Lacks 10 (s.name ++ number_words s.chunks) = lacks-append 10 s.name (number_words s.chunks) (lacks_by is_name_byte 10 refl s.name (letters s.name is.name)) (lacks_numbers s.chunks is.chunks) in
     (refl, (refl, (refl, (refl, (refl, (refl, name))))))
 
-follow_more : (c : Config) (s : SpaceConfig) (more : List SpaceConfig) → Follow c (s ∷ more) → Follow (with_space c s) more
+follow_more : (c : Config) (s : SpaceConfig) (more : List SpaceConfig) → Follow c (s ∷ more) → Follow (with_space_read c s) more
 follow_more c s more f =
     let n : length (c.spaces ++ s ∷ []) ≡ length c.spaces + 1 = length-append c.spaces (s ∷ []) in
     let P : List SpaceConfig → Type 0 = λ l. IsDistinct bytes_eq (names_of l) in
@@ -183,23 +183,23 @@ follow_more c s more f =
 with_none : (c : Config) → spaces_in c [] ≡ c
 with_none c = ap (λ (l : List SpaceConfig). let d : Config = record { spaces = l; physical_space = c.physical_space; physical_entries = c.physical_entries; log_space = c.log_space; log_files = c.log_files; log_file_pages = c.log_file_pages; image_limit = c.image_limit } in d) (append-nil c.spaces)
 
-with_more : (c : Config) (s : SpaceConfig) (more : List SpaceConfig) → spaces_in (with_space c s) more ≡ spaces_in c (s ∷ more)
+with_more : (c : Config) (s : SpaceConfig) (more : List SpaceConfig) → spaces_in (with_space_read c s) more ≡ spaces_in c (s ∷ more)
 with_more c s more = ap (λ (l : List SpaceConfig). let d : Config = record { spaces = l; physical_space = c.physical_space; physical_entries = c.physical_entries; log_space = c.log_space; log_files = c.log_files; log_file_pages = c.log_file_pages; image_limit = c.image_limit } in d) (append_assoc c.spaces (s ∷ []) more)
 
 -- a text that gives a configuration behind what was read, whatever the number of its first line
 abbrev Gives : Reading → List ℕ → Config → Type 0
-Gives r text c = (k : ℕ) → config_from false k r (lines_of text) ≡ Ok c
+Gives r text c = (k : ℕ) → config_from false k r (lines_in_text text) ≡ Ok c
 
 spaces_again : (d : Config) (more : List SpaceConfig) (text : List ℕ) (c : Config) → Follow d more → Gives (record { due = Spaces; config = spaces_in d more }) text c
     → Gives (record { due = Spaces; config = d }) (flat_map space_line more ++ text) c
-spaces_again d [] text c f g = λ k. subst (λ (e : Config). config_from false k (record { due = Spaces; config = e }) (lines_of text) ≡ Ok c) (with_none d) (g k)
+spaces_again d [] text c f g = λ k. subst (λ (e : Config). config_from false k (record { due = Spaces; config = e }) (lines_in_text text) ≡ Ok c) (with_none d) (g k)
 spaces_again d (s ∷ more) text c f g = λ k.
     let P : Config → Type 0 = λ e. Gives (record { due = Spaces; config = e }) text c in
-    let rest : Gives (record { due = Spaces; config = with_space d s }) (flat_map space_line more ++ text) c = spaces_again (with_space d s) more text c (follow_more d s more f) (subst P (sym (with_more d s more)) g) in
+    let rest : Gives (record { due = Spaces; config = with_space_read d s }) (flat_map space_line more ++ text) c = spaces_again (with_space_read d s) more text c (follow_more d s more f) (subst P (sym (with_more d s more)) g) in
     let cut : (space_line s ++ flat_map space_line more) ++ text ≡ space_words s ++ (10 ∷ (flat_map space_line more ++ text)) =
     append_assoc (space_line s) (flat_map space_line more) text ∙ append_assoc (space_words s) (10 ∷ []) (flat_map space_line more ++ text) in
-    ap (λ l. config_from false k (record { due = Spaces; config = d }) (lines_of l)) cut
-    ∙ line_again k (record { due = Spaces; config = d }) (record { due = Spaces; config = with_space d s }) (space_words s) (flat_map space_line more ++ text) c
+    ap (λ l. config_from false k (record { due = Spaces; config = d }) (lines_in_text l)) cut
+    ∙ line_again k (record { due = Spaces; config = d }) (record { due = Spaces; config = with_space_read d s }) (space_words s) (flat_map space_line more ++ text) c
     (lacks_space s (length d.spaces) f.spaces.0) (space_again d s more f) (rest (k + 1))
 
 -- ---- the other lines again
@@ -240,7 +240,7 @@ physical_again c is =
     let fits : area_pages (to_physical c) c.physical_space < first_chunk (space_at c c.physical_space) =
     omega (arith, is.room c.physical_space is.physical_space, nothing_in (c.physical_space == 0) 0 refl) in
     ap (λ l. words_read Spaces (with_spaces c) (codes "physlog" ∷ l)) words
-    ∙ ap (λ o. physical_read (with_spaces c) o (numbers_of (map decimal (c.physical_entries ∷ [])))) (named_again c c.physical_space is.distinct is.physical_space)
+    ∙ ap (λ o. physical_read (with_spaces c) o (numbers_in_words (map decimal (c.physical_entries ∷ [])))) (named_again c c.physical_space is.distinct is.physical_space)
     ∙ ap (λ o. physical_read (with_spaces c) (Some c.physical_space) o) (numbers_again (c.physical_entries ∷ []) limits)
     ∙ cond-true _ _ _ (and_from (nat_le c.physical_entries 4096) (has_room (to_physical c) c.physical_space) (le-leb c.physical_entries 4096 is.physical_entries.1)
     (lt-ltb (area_pages (to_physical c) c.physical_space) (first_chunk (space_at c c.physical_space)) fits))
@@ -254,7 +254,7 @@ logs_again c is =
     ((omega (arith, is.log_files.0), omega (arith, is.log_files.1)), ((omega (arith, is.log_file_pages.0), omega (arith, is.log_file_pages.1)), tt)) in
     let words : words_of (name ++ number_words numbers) ≡ name ∷ map decimal numbers = words_again name numbers (lacks_by is_name_byte 32 refl name (letters name good)) limits in
     ap (λ l. words_read Logs (to_physical c) (codes "logs" ∷ l)) words
-    ∙ ap (λ o. logs_read (to_physical c) o (numbers_of (map decimal numbers))) (named_again c c.log_space is.distinct is.log_space)
+    ∙ ap (λ o. logs_read (to_physical c) o (numbers_in_words (map decimal numbers))) (named_again c c.log_space is.distinct is.log_space)
     ∙ ap (λ o. logs_read (to_physical c) (Some c.log_space) o) (numbers_again numbers limits)
     ∙ cond-true _ _ _ (and_from (nat_le 3 c.log_files && nat_le c.log_files 64) ((nat_le 4 c.log_file_pages && nat_le c.log_file_pages 1000) && has_room (to_logs c) c.log_space)
     (and_from (nat_le 3 c.log_files) (nat_le c.log_files 64) (le-leb 3 c.log_files is.log_files.0) (le-leb c.log_files 64 is.log_files.1))
@@ -349,11 +349,11 @@ length-text c is =
       is.chunks,
     )
 
-pub read_again : (c : Config) → IsConfig c → config_of (config_text c) ≡ Ok c
+pub read_again : (c : Config) → IsConfig c → config_in_text (config_text c) ≡ Ok c
 read_again c is =
     let limit : length (config_text c) ≤ 1024 = omega (arith, length-text c is) in
     let text : spaces_text c ++ (physical_words c ++ (10 ∷ (logs_words c ++ (10 ∷ (limit_words c ++ 10 ∷ []))))) ≡ config_text c =
     sym (line_ends (spaces_text c) (physical_words c) (logs_words c) (limit_words c) (10 ∷ [])) ∙ whole_text c in
-    ap (λ u. config_from u 1 nothing_read (lines_of (take 1024 (config_text c)))) (le-ltb 1024 (length (config_text c)) limit)
-    ∙ ap (λ l. config_from false 1 nothing_read (lines_of l)) (take_all 1024 (config_text c) limit ∙ sym text)
+    ap (λ u. config_from u 1 nothing_read (lines_in_text (take 1024 (config_text c)))) (le-ltb 1024 (length (config_text c)) limit)
+    ∙ ap (λ l. config_from false 1 nothing_read (lines_in_text l)) (take_all 1024 (config_text c) limit ∙ sym text)
     ∙ lines_again c is 1

@@ -9,7 +9,7 @@ use Rattle.std.proofs.Math.ListN.{get_or-append}
 use Rattle.std.proofs.Math.Seq.{get_or-append_seam}
 use Rattle.ol_values.specs.Config.{Config, SpaceConfig, area_pages, space_at, unnamed}
 use Rattle.ol_chunks.specs.Limits.{AreInLimits, AreSpaces, IsConfig, IsSpace, chunk_count, first_chunk, reserved_pages}
-use Rattle.ol_chunks.specs.Places.{chunk_pages, chunk_sizes, first_number, place_among}
+use Rattle.ol_chunks.specs.Places.{chunk_pages, chunk_sizes, first_chunk_number, place_among}
 
 -- ---- the pages of a chunk
 
@@ -24,14 +24,14 @@ image_pages c =
     ap (λ n. slice_index (chunk_sizes c) n) (sym (length-sizes c.spaces)) ∙ get_or-append_seam (sizes c.spaces) c.image_limit [] 0
 
 -- the chunks up to those of a space are among all
-up_to : (c : Config) (space : ℕ) → space < length c.spaces → first_number c space + length (space_at c space).chunks ≤ chunk_count c.spaces
+pub up_to : (c : Config) (space : ℕ) → space < length c.spaces → first_chunk_number c space + length (space_at c space).chunks ≤ chunk_count c.spaces
 up_to c space there = sum_by_more_le (λ (s : SpaceConfig). length s.chunks) c.spaces space unnamed there
 
 pub pages_at : (c : Config) (space i : ℕ) → space < length c.spaces → i < length (space_at c space).chunks
-    → chunk_pages c (first_number c space + i) ≡ slice_index (space_at c space).chunks i
+    → chunk_pages c (first_chunk_number c space + i) ≡ slice_index (space_at c space).chunks i
 pages_at c space i there among =
-    let within : first_number c space + i < length (sizes c.spaces) = omega (arith, up_to c space there, length-sizes c.spaces) in
-    get_or-append (sizes c.spaces) (c.image_limit ∷ []) 0 (first_number c space + i) within
+    let within : first_chunk_number c space + i < length (sizes c.spaces) = omega (arith, up_to c space there, length-sizes c.spaces) in
+    get_or-append (sizes c.spaces) (c.image_limit ∷ []) 0 (first_chunk_number c space + i) within
     ∙ ap (λ n. slice_index (sizes c.spaces) (n + i)) (sym (length-sizes (take space c.spaces)))
     ∙ get_or-flat_map (λ (s : SpaceConfig). s.chunks) c.spaces space i unnamed 0 there among
 
@@ -43,9 +43,9 @@ pub has_chunk : (c : Config) → IsConfig c → (space : ℕ) → space < length
 has_chunk c is space there = some_chunk (space_at c space).chunks (area_pages c space) (is.room space there)
 
 -- the first chunk of a space
-pub first_pages : (c : Config) → IsConfig c → (space : ℕ) → space < length c.spaces → chunk_pages c (first_number c space) ≡ first_chunk (space_at c space)
+pub first_pages : (c : Config) → IsConfig c → (space : ℕ) → space < length c.spaces → chunk_pages c (first_chunk_number c space) ≡ first_chunk (space_at c space)
 first_pages c is space there =
-    ap (λ n. chunk_pages c n) (let e : first_number c space ≡ first_number c space + 0 = omega arith in e) ∙ pages_at c space 0 there (has_chunk c is space there)
+    ap (λ n. chunk_pages c n) (let e : first_chunk_number c space ≡ first_chunk_number c space + 0 = omega arith in e) ∙ pages_at c space 0 there (has_chunk c is space there)
 
 -- ---- limits
 
@@ -88,13 +88,13 @@ few_pages c is space there =
 
 -- ---- areas
 
-pub physical_inside : (c : Config) → IsConfig c → reserved_pages c.physical_space + c.physical_entries * 2 < chunk_pages c (first_number c c.physical_space)
+pub physical_inside : (c : Config) → IsConfig c → reserved_pages c.physical_space + c.physical_entries * 2 < chunk_pages c (first_chunk_number c c.physical_space)
 physical_inside c is =
     let own : cond (c.physical_space == c.physical_space) (2 * c.physical_entries) 0 ≡ 2 * c.physical_entries = cond-true _ _ _ (eq-eqb c.physical_space c.physical_space refl) in
     omega (arith, own, is.room c.physical_space is.physical_space, first_pages c is c.physical_space is.physical_space)
 
 pub logs_inside : (c : Config) → IsConfig c
-    → reserved_pages c.log_space + (if c.log_space == c.physical_space then 2 * c.physical_entries else 0) + c.log_files * c.log_file_pages < chunk_pages c (first_number c c.log_space)
+    → reserved_pages c.log_space + (if c.log_space == c.physical_space then 2 * c.physical_entries else 0) + c.log_files * c.log_file_pages < chunk_pages c (first_chunk_number c c.log_space)
 logs_inside c is =
     let own : cond (c.log_space == c.log_space) (c.log_files * c.log_file_pages) 0 ≡ c.log_files * c.log_file_pages = cond-true _ _ _ (eq-eqb c.log_space c.log_space refl) in
     omega (arith, own, is.room c.log_space is.log_space, first_pages c is c.log_space is.log_space)
@@ -131,10 +131,10 @@ place_is chunk [] page p e = cc
 place_is chunk (pages ∷ chunks) page p e =
     place_step chunk pages page chunks p (nat_lt page pages) refl (λ q f. place_is (chunk + 1) chunks (page - pages) q f) e
 
-pub place_inside : (c : Config) (space first page : ℕ) (chunks : List ℕ) (p : ℕ × ℕ) → space < length c.spaces → first ≡ first_number c space → chunks ≡ (space_at c space).chunks
+pub place_inside : (c : Config) (space first page : ℕ) (chunks : List ℕ) (p : ℕ × ℕ) → space < length c.spaces → first ≡ first_chunk_number c space → chunks ≡ (space_at c space).chunks
     → place_among first chunks page ≡ Some p → p.1 < chunk_pages c p.0
 place_inside c space first page chunks p there at are e =
     let is = place_is first chunks page p e in
-    let k : p.0 ≡ first_number c space + is.at = omega (arith, is.number, at) in
+    let k : p.0 ≡ first_chunk_number c space + is.at = omega (arith, is.number, at) in
     let n : slice_index chunks is.at ≡ slice_index (space_at c space).chunks is.at = ap (λ l. slice_index l is.at) are in
     omega (arith, is.inside, n, ap (λ m. chunk_pages c m) k, pages_at c space is.at there (omega (arith, is.there, ap (λ (l : List ℕ). length l) are)))

@@ -5,4 +5,5 @@ pub mod TextLaws
 pub mod Chunks
 pub mod AgainLaws
 pub mod PlaceLaws
+pub mod PartLaws
 pub mod WorkedExample

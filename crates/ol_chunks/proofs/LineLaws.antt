@@ -3,7 +3,7 @@ use Rattle.std.specs.Prelude.{Bool, List, None, Option, Some, [], bytes_eq, code
 use Rattle.std.proofs.Common.{inl, inr}
 use Rattle.std.proofs.lemmas.Slice.Eq.{bytes_eq-Decides}
 use Rattle.ol_values.specs.Config.{Config, space_named}
-use Rattle.ol_chunks.specs.Reading.{Reading, before_read, has_pages, has_place, has_room, is_new_name, logs_read, numbers_of, physical_read, space_read, with_limit, with_logs, with_physical, with_space, words_read}
+use Rattle.ol_chunks.specs.Reading.{Reading, before_read, has_pages, has_place_left, has_room, is_new_name, logs_read, numbers_in_words, physical_read, space_read, with_limit, with_logs, with_physical, with_space_read, words_read}
 use Rattle.ol_chunks.specs.declared.draft.Due.{Due}
 use Rattle.ol_chunks.specs.declared.draft.Due.TheVariants.{Before, Logs, Nothing, Spaces}
 
@@ -12,9 +12,9 @@ pub record SpaceLine (c : Config) (words : List (List ℕ)) (r : Reading) : Type
   pub numbers : List (List ℕ)
   pub chunks : List ℕ
   pub words_are : words ≡ codes "space" ∷ name ∷ numbers
-  pub chunks_are : numbers_of numbers ≡ Some chunks
-  pub fits : (has_place c.spaces (length chunks) && (is_new_name c.spaces name && has_pages (length c.spaces) chunks)) ≡ true
-  pub gives : r ≡ (let read : Reading = record { due = Spaces; config = with_space c (record { name = name; chunks = chunks }) } in read)
+  pub chunks_are : numbers_in_words numbers ≡ Some chunks
+  pub fits : (has_place_left c.spaces (length chunks) && (is_new_name c.spaces name && has_pages (length c.spaces) chunks)) ≡ true
+  pub gives : r ≡ (let read : Reading = record { due = Spaces; config = with_space_read c (record { name = name; chunks = chunks }) } in read)
 
 pub record PhysicalLine (c : Config) (words : List (List ℕ)) (r : Reading) : Type 0 where
   pub name : List ℕ
@@ -23,7 +23,7 @@ pub record PhysicalLine (c : Config) (words : List (List ℕ)) (r : Reading) : T
   pub entries : ℕ
   pub words_are : words ≡ codes "physlog" ∷ name ∷ numbers
   pub space_is : space_named c name ≡ Some space
-  pub numbers_are : numbers_of numbers ≡ Some (entries ∷ [])
+  pub numbers_are : numbers_in_words numbers ≡ Some (entries ∷ [])
   pub fits : (nat_le entries 4096 && has_room (with_physical c space entries) space) ≡ true
   pub gives : r ≡ (let read : Reading = record { due = Logs; config = with_physical c space entries } in read)
 
@@ -35,7 +35,7 @@ pub record LogsLine (c : Config) (words : List (List ℕ)) (r : Reading) : Type 
   pub pages : ℕ
   pub words_are : words ≡ codes "logs" ∷ name ∷ numbers
   pub space_is : space_named c name ≡ Some space
-  pub numbers_are : numbers_of numbers ≡ Some (files ∷ pages ∷ [])
+  pub numbers_are : numbers_in_words numbers ≡ Some (files ∷ pages ∷ [])
   pub fits : ((nat_le 3 files && nat_le files 64) && ((nat_le 4 pages && nat_le pages 1000) && has_room (with_logs c space files pages) space)) ≡ true
   pub gives : r ≡ (let read : Reading = record { due = Before; config = with_logs c space files pages } in read)
 
@@ -43,7 +43,7 @@ pub record BeforeLine (c : Config) (words : List (List ℕ)) (r : Reading) : Typ
   pub numbers : List (List ℕ)
   pub limit : ℕ
   pub words_are : words ≡ codes "before" ∷ numbers
-  pub numbers_are : numbers_of numbers ≡ Some (limit ∷ [])
+  pub numbers_are : numbers_in_words numbers ≡ Some (limit ∷ [])
   pub fits : nat_le limit 4096 ≡ true
   pub gives : r ≡ (let read : Reading = record { due = Nothing; config = with_limit c limit } in read)
 
@@ -65,15 +65,15 @@ same_word word other e = (bytes_eq-Decides word other).0 e
 with_words : (word other name : List ℕ) (words : List (List ℕ)) → bytes_eq word other ≡ true → (let l : List (List ℕ) = word ∷ name ∷ words in l) ≡ other ∷ name ∷ words
 with_words word other name words e = let same : word ≡ other = same_word word other e in cc
 
-space_line : (c : Config) (word name : List ℕ) (words : List (List ℕ)) (r : Reading) (o : Option (List ℕ)) → bytes_eq word (codes "space") ≡ true → numbers_of words ≡ o
+space_line : (c : Config) (word name : List ℕ) (words : List (List ℕ)) (r : Reading) (o : Option (List ℕ)) → bytes_eq word (codes "space") ≡ true → numbers_in_words words ≡ o
     → space_read c name o ≡ Some r → SpaceLine c (word ∷ name ∷ words) r
 space_line c word name words r None first is e = cc
 space_line c word name words r (Some chunks) first is e =
-    let p = some_if (has_place c.spaces (length chunks) && (is_new_name c.spaces name && has_pages (length c.spaces) chunks)) (record { due = Spaces; config = with_space c (record { name = name; chunks = chunks }) }) r e in
+    let p = some_if (has_place_left c.spaces (length chunks) && (is_new_name c.spaces name && has_pages (length c.spaces) chunks)) (record { due = Spaces; config = with_space_read c (record { name = name; chunks = chunks }) }) r e in
     record { name = name; numbers = words; chunks = chunks; words_are = with_words word (codes "space") name words first; chunks_are = is; fits = p.0; gives = p.1 }
 
 physical_line : (c : Config) (word name : List ℕ) (words : List (List ℕ)) (r : Reading) (s : Option ℕ) (o : Option (List ℕ)) → bytes_eq word (codes "physlog") ≡ true → space_named c name ≡ s
-    → numbers_of words ≡ o → physical_read c s o ≡ Some r → PhysicalLine c (word ∷ name ∷ words) r
+    → numbers_in_words words ≡ o → physical_read c s o ≡ Some r → PhysicalLine c (word ∷ name ∷ words) r
 physical_line c word name words r None o first s is e = cc
 physical_line c word name words r (Some space) None first s is e = cc
 physical_line c word name words r (Some space) (Some []) first s is e = cc
@@ -83,7 +83,7 @@ physical_line c word name words r (Some space) (Some (entries ∷ [])) first s i
 physical_line c word name words r (Some space) (Some (n ∷ k ∷ numbers)) first s is e = cc
 
 logs_line : (c : Config) (word name : List ℕ) (words : List (List ℕ)) (r : Reading) (s : Option ℕ) (o : Option (List ℕ)) → bytes_eq word (codes "logs") ≡ true → space_named c name ≡ s
-    → numbers_of words ≡ o → logs_read c s o ≡ Some r → LogsLine c (word ∷ name ∷ words) r
+    → numbers_in_words words ≡ o → logs_read c s o ≡ Some r → LogsLine c (word ∷ name ∷ words) r
 logs_line c word name words r None o first s is e = cc
 logs_line c word name words r (Some space) None first s is e = cc
 logs_line c word name words r (Some space) (Some []) first s is e = cc
@@ -94,7 +94,7 @@ logs_line c word name words r (Some space) (Some (files ∷ pages ∷ [])) first
 logs_line c word name words r (Some space) (Some (n ∷ k ∷ m ∷ numbers)) first s is e = cc
 
 before_line : (c : Config) (word : List ℕ) (words : List (List ℕ)) (r : Reading) (o : Option (List ℕ)) → bytes_eq word (codes "before") ≡ true
-    → numbers_of words ≡ o → before_read c o ≡ Some r → BeforeLine c (word ∷ words) r
+    → numbers_in_words words ≡ o → before_read c o ≡ Some r → BeforeLine c (word ∷ words) r
 before_line c word words r None first is e = cc
 before_line c word words r (Some []) first is e = cc
 before_line c word words r (Some (limit ∷ [])) first is e =
@@ -109,22 +109,22 @@ gives Spaces c (word ∷ []) r e = cc
 gives Spaces c (word ∷ name ∷ words) r e = first (bytes_eq word (codes "space")) (bytes_eq word (codes "physlog")) refl refl e
   where
     first : (u v : Bool) → bytes_eq word (codes "space") ≡ u → bytes_eq word (codes "physlog") ≡ v
-        → (if u then space_read c name (numbers_of words) else (if v then physical_read c (space_named c name) (numbers_of words) else None)) ≡ Some r
+        → (if u then space_read c name (numbers_in_words words) else (if v then physical_read c (space_named c name) (numbers_in_words words) else None)) ≡ Some r
         → SpaceLine c (word ∷ name ∷ words) r ⊎ PhysicalLine c (word ∷ name ∷ words) r
-    first true v a b e = inl (space_line c word name words r (numbers_of words) a refl e)
-    first false true a b e = inr (physical_line c word name words r (space_named c name) (numbers_of words) b refl refl e)
+    first true v a b e = inl (space_line c word name words r (numbers_in_words words) a refl e)
+    first false true a b e = inr (physical_line c word name words r (space_named c name) (numbers_in_words words) b refl refl e)
     first false false a b e = cc
 gives Logs c [] r e = cc
 gives Logs c (word ∷ []) r e = cc
 gives Logs c (word ∷ name ∷ words) r e = first (bytes_eq word (codes "logs")) refl e
   where
-    first : (u : Bool) → bytes_eq word (codes "logs") ≡ u → (if u then logs_read c (space_named c name) (numbers_of words) else None) ≡ Some r → LogsLine c (word ∷ name ∷ words) r
-    first true a e = logs_line c word name words r (space_named c name) (numbers_of words) a refl refl e
+    first : (u : Bool) → bytes_eq word (codes "logs") ≡ u → (if u then logs_read c (space_named c name) (numbers_in_words words) else None) ≡ Some r → LogsLine c (word ∷ name ∷ words) r
+    first true a e = logs_line c word name words r (space_named c name) (numbers_in_words words) a refl refl e
     first false a e = cc
 gives Before c [] r e = cc
 gives Before c (word ∷ words) r e = first (bytes_eq word (codes "before")) refl e
   where
-    first : (u : Bool) → bytes_eq word (codes "before") ≡ u → (if u then before_read c (numbers_of words) else None) ≡ Some r → BeforeLine c (word ∷ words) r
-    first true a e = before_line c word words r (numbers_of words) a refl e
+    first : (u : Bool) → bytes_eq word (codes "before") ≡ u → (if u then before_read c (numbers_in_words words) else None) ≡ Some r → BeforeLine c (word ∷ words) r
+    first true a e = before_line c word words r (numbers_in_words words) a refl e
     first false a e = cc
 gives Nothing c words r e = cc

@@ -12,8 +12,8 @@ use Rattle.std.proofs.lemmas.List.Quantifiers.{position-Some}
 use Rattle.std.proofs.Math.Seq.{get_or-append_seam}
 use Rattle.std.specs.Cmp.{IsEquivalence}
 use Rattle.ol_values.specs.Config.{Config, SpaceConfig, is_name, space_at, space_named, unnamed}
-use Rattle.ol_chunks.specs.Limits.{AreInLimits, AreSpaces, HasRoom, IsConfig, IsSpace, chunk_count, first_chunk, names_of, reserved_pages}
-use Rattle.ol_chunks.specs.Reading.{Reading, after_line, has_pages, has_place, has_room, is_new_name, nothing_read, with_limit, with_logs, with_physical, with_space, words_of}
+use Rattle.ol_chunks.specs.Limits.{AreInLimits, AreSpaces, HasDataRoom, IsConfig, IsSpace, chunk_count, first_chunk, names_of, reserved_pages}
+use Rattle.ol_chunks.specs.Reading.{Reading, after_line, has_pages, has_place_left, has_room, is_new_name, nothing_read, with_limit, with_logs, with_physical, with_space_read, words_of}
 use Rattle.ol_chunks.specs.declared.draft.Due.{Due}
 use Rattle.ol_chunks.specs.declared.draft.Due.TheVariants.{Before, Logs, Nothing, Spaces}
 use Rattle.ol_chunks.proofs.LineLaws.{BeforeLine, Gives, LogsLine, PhysicalLine, SpaceLine, gives}
@@ -25,7 +25,7 @@ pub record IsBegun (c : Config) : Type 0 where
   pub distinct : IsDistinct bytes_eq (names_of c.spaces)
   pub few : length c.spaces ≤ 16
   pub chunks : chunk_count c.spaces ≤ 31
-  pub room : (space : ℕ) → space < length c.spaces → HasRoom c space
+  pub room : (space : ℕ) → space < length c.spaces → HasDataRoom c space
 
 pub record IsPhysical (c : Config) : Type 0 where
   pub space : c.physical_space < length c.spaces
@@ -82,17 +82,17 @@ nothing_there false true n m = omega arith
 nothing_there false false n m = refl
 
 space_room : (c : Config) (s : SpaceConfig) → IsBegun c → c.physical_entries ≡ 0 → c.log_files ≡ 0 → nat_lt (reserved_pages (length c.spaces)) (first_chunk s) ≡ true
-    → (space : ℕ) → space < length (c.spaces ++ s ∷ []) → HasRoom (with_space c s) space
+    → (space : ℕ) → space < length (c.spaces ++ s ∷ []) → HasDataRoom (with_space_read c s) space
 space_room c s b p l fits space lt = go (cases_lt space (length c.spaces))
   where
-    go : (space < length c.spaces) ⊎ (length c.spaces ≤ space) → HasRoom (with_space c s) space
+    go : (space < length c.spaces) ⊎ (length c.spaces ≤ space) → HasDataRoom (with_space_read c s) space
     go (inl old) = rw (get_or_append_left c.spaces (s ∷ []) unnamed space old) (b.room space old)
     go (inr new) =
         let at : length c.spaces ≡ space = omega (arith, length-append c.spaces (s ∷ []), lt) in
-        let seam : space_at (with_space c s) (length c.spaces) ≡ s = get_or-append_seam c.spaces s [] unnamed in
+        let seam : space_at (with_space_read c s) (length c.spaces) ≡ s = get_or-append_seam c.spaces s [] unnamed in
         let none : cond (length c.spaces == c.physical_space) (2 * c.physical_entries) 0 + cond (length c.spaces == c.log_space) (c.log_files * c.log_file_pages) 0 ≡ 0 =
         rw (p, l) (nothing_there _ _ 0 c.log_file_pages) in
-        let P : ℕ → Type 0 = λ n. HasRoom (with_space c s) n in
+        let P : ℕ → Type 0 = λ n. HasDataRoom (with_space_read c s) n in
         subst P at (omega (arith, none, ap first_chunk seam, ltb-true (reserved_pages (length c.spaces)) (first_chunk s) fits))
 
 root_named : (u : Bool) (name : List ℕ) → (not u || bytes_eq name (codes "root")) ≡ true → u ≡ true → name ≡ codes "root"
@@ -100,9 +100,9 @@ root_named true name e at = (bytes_eq-Decides name (codes "root")).0 e
 root_named false name e at = cc
 
 begun_space : (c : Config) (s : SpaceConfig) → IsBegun c → c.physical_entries ≡ 0 → c.log_files ≡ 0 → AreInLimits s.chunks
-    → (has_place c.spaces (length s.chunks) && (is_new_name c.spaces s.name && has_pages (length c.spaces) s.chunks)) ≡ true → IsBegun (with_space c s)
+    → (has_place_left c.spaces (length s.chunks) && (is_new_name c.spaces s.name && has_pages (length c.spaces) s.chunks)) ≡ true → IsBegun (with_space_read c s)
 begun_space c s b p l chunks fits =
-    let f = and_parts (has_place c.spaces (length s.chunks)) (is_new_name c.spaces s.name && has_pages (length c.spaces) s.chunks) fits in
+    let f = and_parts (has_place_left c.spaces (length s.chunks)) (is_new_name c.spaces s.name && has_pages (length c.spaces) s.chunks) fits in
     let place = and_parts (nat_lt (length c.spaces) 16) (nat_le (chunk_count c.spaces + length s.chunks) 31) f.0 in
     let named = and_parts (is_new_name c.spaces s.name) (has_pages (length c.spaces) s.chunks) f.1 in
     let name = and_parts (is_name s.name) ((not (length c.spaces == 0) || bytes_eq s.name (codes "root")) && not (list_any (λ (t : SpaceConfig). bytes_eq s.name t.name) c.spaces)) named.0 in
@@ -124,23 +124,23 @@ begun_space c s b p l chunks fits =
 
 -- ---- what stands in the spaces
 
-physical_room : (c : Config) (space entries : ℕ) → has_room (with_physical c space entries) space ≡ true → (i : ℕ) → HasRoom c i → HasRoom (with_physical c space entries) i
+physical_room : (c : Config) (space entries : ℕ) → has_room (with_physical c space entries) space ≡ true → (i : ℕ) → HasDataRoom c i → HasDataRoom (with_physical c space entries) i
 physical_room c space entries fits i old = go (i == space) refl
   where
-    go : (u : Bool) → (i == space) ≡ u → HasRoom (with_physical c space entries) i
+    go : (u : Bool) → (i == space) ≡ u → HasDataRoom (with_physical c space entries) i
     go true at =
-        let P : ℕ → Type 0 = λ n. HasRoom (with_physical c space entries) n in
+        let P : ℕ → Type 0 = λ n. HasDataRoom (with_physical c space entries) n in
         subst P (sym (eqb-true i space at)) (ltb-true _ _ fits)
     go false at =
         let none : cond (i == space) (2 * entries) 0 ≡ 0 = cond-false (i == space) (2 * entries) 0 at in
         omega (arith, none, old)
 
-logs_room : (c : Config) (space files pages : ℕ) → has_room (with_logs c space files pages) space ≡ true → (i : ℕ) → HasRoom c i → HasRoom (with_logs c space files pages) i
+logs_room : (c : Config) (space files pages : ℕ) → has_room (with_logs c space files pages) space ≡ true → (i : ℕ) → HasDataRoom c i → HasDataRoom (with_logs c space files pages) i
 logs_room c space files pages fits i old = go (i == space) refl
   where
-    go : (u : Bool) → (i == space) ≡ u → HasRoom (with_logs c space files pages) i
+    go : (u : Bool) → (i == space) ≡ u → HasDataRoom (with_logs c space files pages) i
     go true at =
-        let P : ℕ → Type 0 = λ n. HasRoom (with_logs c space files pages) n in
+        let P : ℕ → Type 0 = λ n. HasDataRoom (with_logs c space files pages) n in
         subst P (sym (eqb-true i space at)) (ltb-true _ _ fits)
     go false at =
         let none : cond (i == space) (files * pages) 0 ≡ 0 = cond-false (i == space) (files * pages) 0 at in
@@ -160,7 +160,7 @@ named c name space e =
 keeps_space : (c : Config) (words : List (List ℕ)) (r : Reading) → IsBegun c → IsStage Spaces c → SpaceLine c words r → IsRead r
 keeps_space c words r b st line =
     let s : SpaceConfig = record { name = line.name; chunks = line.chunks } in
-    let read : Reading = record { due = Spaces; config = with_space c s } in
+    let read : Reading = record { due = Spaces; config = with_space_read c s } in
     let is : IsRead read = record { begun = begun_space c s b st.0 st.1 (numbers_are line.numbers line.chunks line.chunks_are).limits line.fits; stage = st } in
     subst (λ (q : Reading). IsRead q) (sym line.gives) is
 

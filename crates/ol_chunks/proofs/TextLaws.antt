@@ -3,13 +3,13 @@ use Rattle.std.specs.Fmt.{decimal}
 use Rattle.std.specs.List.{flat_map, join_with_byte, onto_first}
 use Rattle.std.specs.Prelude.{Bool, Err, List, None, Ok, Option, Result, Some, [], codes, cond, false, if◌then◌else◌, length, map, min, nat_lt, refl, take, true, ℕ, ◌++◌, ◌+◌, ◌==◌, ◌∷◌, ◌≡◌, ◌≤◌, ◌<◌}
 use Rattle.std.proofs.Common.{ap, append_assoc, arith, inl, inr, length-take, subst, sym, ◌∙◌}
-use Rattle.std.proofs.lemmas.Bool.{ltb-false}
+use Rattle.std.proofs.lemmas.Bool.{le-ltb, ltb-false}
 use Rattle.std.proofs.lemmas.Grind.{flat_map-append}
 use Rattle.std.proofs.lemmas.List.{append-nil, take_all, take_min}
 use Rattle.std.proofs.lemmas.List.Splits.{join_with_byte-slice_split}
 use Rattle.ol_values.specs.Config.{Config, SpaceConfig, config_text, number_words, space_at, space_line}
 use Rattle.ol_chunks.specs.Limits.{IsConfig}
-use Rattle.ol_chunks.specs.Reading.{Reading, after_line, config_from, config_of, line_then, lines_of, may_end, nothing_read, numbers_of, words_of}
+use Rattle.ol_chunks.specs.Reading.{Reading, after_line, config_from, config_in_text, line_then, lines_in_text, may_end, nothing_read, numbers_in_words, words_of}
 use Rattle.ol_chunks.specs.declared.draft.Due.{Due}
 use Rattle.ol_chunks.specs.declared.draft.Due.TheVariants.{Before, Logs, Nothing, Spaces}
 use Rattle.ol_chunks.proofs.LineLaws.{BeforeLine, Gives, LogsLine, PhysicalLine, SpaceLine, gives}
@@ -46,14 +46,14 @@ line_is : (line : List ℕ) (words : List (List ℕ)) → words_of line ≡ word
 line_is line words e = sym (join_with_byte-slice_split 32 line) ∙ ap (join_with_byte 32) e
 
 -- a line of two words and numbers, with its end
-named_line : (line word name : List ℕ) (words : List (List ℕ)) (numbers : List ℕ) → words_of line ≡ word ∷ name ∷ words → numbers_of words ≡ Some numbers
+named_line : (line word name : List ℕ) (words : List (List ℕ)) (numbers : List ℕ) → words_of line ≡ word ∷ name ∷ words → numbers_in_words words ≡ Some numbers
     → line ++ 10 ∷ [] ≡ word ++ (32 ∷ ((name ++ number_words numbers) ++ 10 ∷ []))
 named_line line word name words numbers e is =
     let t : words ≡ map decimal numbers = (numbers_are words numbers is).text in
     ap (λ (l : List ℕ). l ++ 10 ∷ []) (line_is line (word ∷ name ∷ words) e ∙ ap (λ l. word ++ (32 ∷ join_with_byte 32 (name ∷ l))) t ∙ ap (λ l. word ++ (32 ∷ l)) (joined name numbers))
     ∙ append_assoc word (32 ∷ (name ++ number_words numbers)) (10 ∷ [])
 
-limit_line : (line word : List ℕ) (words : List (List ℕ)) (numbers : List ℕ) → words_of line ≡ word ∷ words → numbers_of words ≡ Some numbers
+limit_line : (line word : List ℕ) (words : List (List ℕ)) (numbers : List ℕ) → words_of line ≡ word ∷ words → numbers_in_words words ≡ Some numbers
     → line ++ 10 ∷ [] ≡ word ++ (number_words numbers ++ 10 ∷ [])
 limit_line line word words numbers e is =
     let t : words ≡ map decimal numbers = (numbers_are words numbers is).text in
@@ -153,11 +153,11 @@ pub record IsTextRead (text : List ℕ) (c : Config) : Type 0 where
   pub limit : length text ≤ 1024
 
 -- the text that gives a configuration is its own text
-pub text_of_read : (text : List ℕ) (c : Config) → config_of text ≡ Ok c → IsTextRead text c
+pub text_of_read : (text : List ℕ) (c : Config) → config_in_text text ≡ Ok c → IsTextRead text c
 text_of_read text c e =
-    let t = read_back (nat_lt 1024 (length text)) 1 nothing_read (lines_of (take 1024 text)) c nothing_is_read e in
+    let t = read_back (nat_lt 1024 (length text)) 1 nothing_read (lines_in_text (take 1024 text)) c nothing_is_read e in
     let le : length text ≤ 1024 = ltb-false 1024 (length text) t.whole in
-    let all : join_with_byte 10 (lines_of (take 1024 text)) ≡ text = join_with_byte-slice_split 10 (take 1024 text) ∙ take_all 1024 text le in
+    let all : join_with_byte 10 (lines_in_text (take 1024 text)) ≡ text = join_with_byte-slice_split 10 (take 1024 text) ∙ take_all 1024 text le in
     record { config = t.config; text_is = sym all ∙ t.text_is ∙ whole_text c; limit = le }
 
 -- ---- where a reader stands
@@ -170,13 +170,13 @@ onto_first-cons : (b : ℕ) (pieces : List (List ℕ)) → IsCons (onto_first b 
 onto_first-cons b [] = tt
 onto_first-cons b (piece ∷ pieces) = tt
 
-pub lines_cons : (text : List ℕ) → IsCons (lines_of text)
+pub lines_cons : (text : List ℕ) → IsCons (lines_in_text text)
 lines_cons [] = tt
 lines_cons (b ∷ text) = go (b == 10)
   where
-    go : (u : Bool) → IsCons (cond u ([] ∷ lines_of text) (onto_first b (lines_of text)))
+    go : (u : Bool) → IsCons (cond u ([] ∷ lines_in_text text) (onto_first b (lines_in_text text)))
     go true = tt
-    go false = onto_first-cons b (lines_of text)
+    go false = onto_first-cons b (lines_in_text text)
 
 pub line_from : (more : Bool) (k : ℕ) (r : Reading) (line : List ℕ) (lines : List (List ℕ)) → IsCons lines
     → config_from more k r (line ∷ lines) ≡ line_then k (after_line r line) (λ read. config_from more (k + 1) read lines)
@@ -186,40 +186,42 @@ line_from more k r line (next ∷ lines) c = refl
 -- of a text this was read, and this is left
 pub record IsLeft (text : List ℕ) (k : ℕ) (r : Reading) (left : List ℕ) : Type 0 where
   pub read : IsRead r
-  pub rest : config_from (nat_lt 1024 (length text)) k r (lines_of left) ≡ config_of text
+  pub rest : config_from (nat_lt 1024 (length text)) k r (lines_in_text left) ≡ config_in_text text
   pub count : k + length left ≤ 1025
 
 pub left_first : (text : List ℕ) → IsLeft text 1 nothing_read (take 1024 text)
 left_first text = record { read = nothing_is_read; rest = refl; count = omega (arith, length-take 1024 text) }
 
-line_left : (text : List ℕ) (k : ℕ) (r : Reading) (left line behind : List ℕ) → IsLeft text k r left → lines_of left ≡ line ∷ lines_of behind
-    → line_then k (after_line r line) (λ read. config_from (nat_lt 1024 (length text)) (k + 1) read (lines_of behind)) ≡ config_of text
+line_left : (text : List ℕ) (k : ℕ) (r : Reading) (left line behind : List ℕ) → IsLeft text k r left → lines_in_text left ≡ line ∷ lines_in_text behind
+    → line_then k (after_line r line) (λ read. config_from (nat_lt 1024 (length text)) (k + 1) read (lines_in_text behind)) ≡ config_in_text text
 line_left text k r left line behind l cut =
-    sym (line_from (nat_lt 1024 (length text)) k r line (lines_of behind) (lines_cons behind)) ∙ ap (config_from (nat_lt 1024 (length text)) k r) (sym cut) ∙ l.rest
+    sym (line_from (nat_lt 1024 (length text)) k r line (lines_in_text behind) (lines_cons behind)) ∙ ap (config_from (nat_lt 1024 (length text)) k r) (sym cut) ∙ l.rest
 
-pub left_more : (text : List ℕ) (k : ℕ) (r next : Reading) (left line behind : List ℕ) → IsLeft text k r left → lines_of left ≡ line ∷ lines_of behind
+pub left_more : (text : List ℕ) (k : ℕ) (r next : Reading) (left line behind : List ℕ) → IsLeft text k r left → lines_in_text left ≡ line ∷ lines_in_text behind
     → length behind < length left → after_line r line ≡ Some next → IsLeft text (k + 1) next behind
 left_more text k r next left line behind l cut shorter e = record {
   read = read_keeps r next line l.read e;
   rest =
-      ap (λ o. line_then k o (λ read. config_from (nat_lt 1024 (length text)) (k + 1) read (lines_of behind))) (sym e)
+      ap (λ o. line_then k o (λ read. config_from (nat_lt 1024 (length text)) (k + 1) read (lines_in_text behind))) (sym e)
       ∙ line_left text k r left line behind l cut;
   count = omega (arith, l.count);
 }
 
-pub left_bad : (text : List ℕ) (k : ℕ) (r : Reading) (left line behind : List ℕ) → IsLeft text k r left → lines_of left ≡ line ∷ lines_of behind
-    → after_line r line ≡ None → config_of text ≡ Err k
+pub left_bad : (text : List ℕ) (k : ℕ) (r : Reading) (left line behind : List ℕ) → IsLeft text k r left → lines_in_text left ≡ line ∷ lines_in_text behind
+    → after_line r line ≡ None → config_in_text text ≡ Err k
 left_bad text k r left line behind l cut e =
     sym (line_left text k r left line behind l cut)
-    ∙ ap (λ o. line_then k o (λ read. config_from (nat_lt 1024 (length text)) (k + 1) read (lines_of behind))) e
+    ∙ ap (λ o. line_then k o (λ read. config_from (nat_lt 1024 (length text)) (k + 1) read (lines_in_text behind))) e
 
-pub left_last : (text : List ℕ) (k : ℕ) (r : Reading) (left : List ℕ) → IsLeft text k r left → lines_of left ≡ left ∷ []
-    → config_of text ≡ (if may_end (nat_lt 1024 (length text)) r.due left then Ok r.config else Err k)
+pub left_last : (text : List ℕ) (k : ℕ) (r : Reading) (left : List ℕ) → IsLeft text k r left → lines_in_text left ≡ left ∷ []
+    → config_in_text text ≡ (if may_end (nat_lt 1024 (length text)) r.due left then Ok r.config else Err k)
 left_last text k r left l cut = sym l.rest ∙ ap (config_from (nat_lt 1024 (length text)) k r) cut
 
 pub front_is : (text : List ℕ) (n : ℕ) → n ≡ min (length text) 1024 → take n text ≡ take 1024 text
 front_is text n e = let f : n ≡ min 1024 (length text) = omega arith in ap (λ k. take k text) f ∙ take_min 1024 text
 
-pub left_ends : (text : List ℕ) (k : ℕ) (r : Reading) (left : List ℕ) → IsLeft text k r left → lines_of left ≡ left ∷ [] → may_end (nat_lt 1024 (length text)) r.due left ≡ true
+pub left_ends : (text : List ℕ) (k : ℕ) (r : Reading) (left : List ℕ) → IsLeft text k r left → lines_in_text left ≡ left ∷ [] → length text ≤ 1024 → may_end false r.due left ≡ true
     → IsTextRead text r.config
-left_ends text k r left l cut e = text_of_read text r.config (left_last text k r left l cut ∙ ap (λ u. if u then Ok r.config else Err k) e)
+left_ends text k r left l cut few e =
+    let whole : nat_lt 1024 (length text) ≡ false = le-ltb 1024 (length text) few in
+    text_of_read text r.config (left_last text k r left l cut ∙ ap (λ u. if (may_end u r.due left) then Ok r.config else Err k) whole ∙ ap (λ u. if u then Ok r.config else Err k) e)

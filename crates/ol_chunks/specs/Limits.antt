@@ -36,8 +36,8 @@ AreSpaces space [] = Unit {0}
 AreSpaces space (s ∷ spaces) = IsSpace space s × AreSpaces (space + 1) spaces
 
 -- what stands in front of a space's data pages leaves one of them in the first chunk
-abbrev pub HasRoom : Config → ℕ → Type 0
-HasRoom c space = area_pages c space < first_chunk (space_at c space)
+abbrev pub HasDataRoom : Config → ℕ → Type 0
+HasDataRoom c space = area_pages c space < first_chunk (space_at c space)
 
 -- all spaces, areas and numbers are within their limits, no name comes twice, and the areas fit
 pub record IsConfig (c : Config) : Type 0 where
@@ -45,7 +45,7 @@ pub record IsConfig (c : Config) : Type 0 where
   pub distinct : IsDistinct bytes_eq (names_of c.spaces)
   pub few : length c.spaces ≤ 16
   pub chunks : chunk_count c.spaces ≤ 31
-  pub room : (space : ℕ) → space < length c.spaces → HasRoom c space
+  pub room : (space : ℕ) → space < length c.spaces → HasDataRoom c space
   pub physical_space : c.physical_space < length c.spaces
   pub physical_entries : (1 ≤ c.physical_entries) × (c.physical_entries ≤ 4096)
   pub log_space : c.log_space < length c.spaces

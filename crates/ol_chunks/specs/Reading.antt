@@ -10,20 +10,20 @@ use Rattle.ol_chunks.specs.declared.draft.Due.TheVariants.{Before, Logs, Nothing
 -- ---- words
 
 -- the lines of a text; what stands behind the last line feed is the last piece
-abbrev pub lines_of : List ℕ → List (List ℕ)
-lines_of text = slice_split (λ b. b == 10) text
+abbrev pub lines_in_text : List ℕ → List (List ℕ)
+lines_in_text text = slice_split (λ b. b == 10) text
 
 -- the words of a line, with one blank between two
 abbrev pub words_of : List ℕ → List (List ℕ)
 words_of line = slice_split (λ b. b == 32) line
 
 -- the number from 1 to 65,535 that a word is in decimal
-abbrev pub number_of : List ℕ → Option ℕ
-number_of word = number_up_to 65535 word
+abbrev pub number_in_word : List ℕ → Option ℕ
+number_in_word word = number_up_to 65535 word
 
 -- the numbers that words are, where each is one
-abbrev pub numbers_of : List (List ℕ) → Option (List ℕ)
-numbers_of words = numbers_up_to 65535 words
+abbrev pub numbers_in_words : List (List ℕ) → Option (List ℕ)
+numbers_in_words words = numbers_up_to 65535 words
 
 -- ---- what was read
 
@@ -40,8 +40,8 @@ nothing_read = record {
 }
 
 -- a configuration with one space more
-abbrev pub with_space : Config → SpaceConfig → Config
-with_space c s = record {
+abbrev pub with_space_read : Config → SpaceConfig → Config
+with_space_read c s = record {
   spaces = c.spaces ++ s ∷ [];
   physical_space = c.physical_space;
   physical_entries = c.physical_entries;
@@ -100,8 +100,8 @@ abbrev pub is_new_name : List SpaceConfig → List ℕ → Bool
 is_new_name spaces name = is_name name && ((not (length spaces == 0) || bytes_eq name (codes "root")) && not (list_any (λ (s : SpaceConfig). bytes_eq name s.name) spaces))
 
 -- at most 16 spaces, and at most 31 chunks in all
-abbrev pub has_place : List SpaceConfig → ℕ → Bool
-has_place spaces chunks = nat_lt (length spaces) 16 && nat_le (chunk_count spaces + chunks) 31
+abbrev pub has_place_left : List SpaceConfig → ℕ → Bool
+has_place_left spaces chunks = nat_lt (length spaces) 16 && nat_le (chunk_count spaces + chunks) 31
 
 -- ---- a line
 
@@ -109,8 +109,8 @@ has_place spaces chunks = nat_lt (length spaces) 16 && nat_le (chunk_count space
 abbrev pub space_read : Config → List ℕ → Option (List ℕ) → Option Reading
 space_read c name None = None
 space_read c name (Some chunks) =
-    if has_place c.spaces (length chunks) && (is_new_name c.spaces name && has_pages (length c.spaces) chunks)
-    then Some (record { due = Spaces; config = with_space c (record { name = name; chunks = chunks }) }) else None
+    if has_place_left c.spaces (length chunks) && (is_new_name c.spaces name && has_pages (length c.spaces) chunks)
+    then Some (record { due = Spaces; config = with_space_read c (record { name = name; chunks = chunks }) }) else None
 
 -- behind the physical log's line: its space, and one number of at most 4,096 entries
 abbrev pub physical_read : Config → Option ℕ → Option (List ℕ) → Option Reading
@@ -134,10 +134,10 @@ before_read c _ = None
 -- a line by its first word; None where it isn't one that may stand here
 abbrev pub words_read : Due → Config → List (List ℕ) → Option Reading
 words_read Spaces c (word ∷ name ∷ words) =
-    if bytes_eq word (codes "space") then space_read c name (numbers_of words)
-    else (if bytes_eq word (codes "physlog") then physical_read c (space_named c name) (numbers_of words) else None)
-words_read Logs c (word ∷ name ∷ words) = if bytes_eq word (codes "logs") then logs_read c (space_named c name) (numbers_of words) else None
-words_read Before c (word ∷ words) = if bytes_eq word (codes "before") then before_read c (numbers_of words) else None
+    if bytes_eq word (codes "space") then space_read c name (numbers_in_words words)
+    else (if bytes_eq word (codes "physlog") then physical_read c (space_named c name) (numbers_in_words words) else None)
+words_read Logs c (word ∷ name ∷ words) = if bytes_eq word (codes "logs") then logs_read c (space_named c name) (numbers_in_words words) else None
+words_read Before c (word ∷ words) = if bytes_eq word (codes "before") then before_read c (numbers_in_words words) else None
 words_read _ c _ = None
 
 -- what was read behind one line more; None where it is bad
@@ -163,5 +163,5 @@ config_from more number r (piece ∷ []) = if may_end more r.due piece then Ok r
 config_from more number r (line ∷ next ∷ lines) = line_then number (after_line r line) (λ read. config_from more (number + 1) read (next ∷ lines))
 
 -- the configuration of a text, or the number of its first bad line. What stands behind the first 1,024 bytes is bad where it begins
-abbrev pub config_of : List ℕ → Result Config ℕ
-config_of text = config_from (nat_lt 1024 (length text)) 1 nothing_read (lines_of (take 1024 text))
+abbrev pub config_in_text : List ℕ → Result Config ℕ
+config_in_text text = config_from (nat_lt 1024 (length text)) 1 nothing_read (lines_in_text (take 1024 text))

@@ -1,20 +1,21 @@
 //! The reading of a configuration's text, line by line.
 
-ghost use Rattle.std.specs.Prelude.{◌≡◌, ◌≤◌, ◌∷◌, IfOk, bytes_eq, length};
+ghost use Rattle.std.specs.Prelude.{◌≡◌, ◌≤◌, ◌∷◌, bytes_eq, length};
 ghost use Rattle.std.specs.List.{list_any};
 ghost use Rattle.ol_values.specs.Config.{SpaceConfig, space_named};
 ghost use Rattle.ol_chunks.specs.Drafts.{Reads, config_in, reading_in};
 ghost use Rattle.ol_chunks.specs.Limits.{chunk_count};
 ghost use Rattle.ol_chunks.specs.Pieces.{words_behind};
-ghost use Rattle.ol_chunks.specs.Reading.{after_line, has_pages as has_pages_for, has_place as has_place_for, is_new_name as is_new_name_of};
-ghost use Rattle.ol_chunks.specs.Reading.{logs_read, nothing_read, numbers_of as numbers_of_words, physical_read, space_read, words_read};
+ghost use Rattle.ol_chunks.specs.Reading.{after_line, has_pages as has_pages_for, has_place_left as has_place_for, is_new_name as is_new_name_of};
+ghost use Rattle.ol_chunks.specs.Reading.{logs_read, nothing_read, numbers_in_words as numbers_of_words, physical_read, space_read, words_read};
 
-use crate::layout::{Layout, Space, all_pages, count_chunks, find_space, first_of, reserved_pages};
-use crate::name::Name;
+use crate::layout::{
+    CHUNKS, Layout, SPACES, Space, all_pages, count_chunks, find_space, first_of, reserved_pages,
+};
+use crate::name::{Name, ROOT};
 use crate::words::numbers_of;
-use ol_values::NoMemory;
+use arrayvec::ArrayVec;
 use ol_words::cut;
-use std::alloc::Global;
 
 const SPACE_WORD: &[u8] = b"space";
 
@@ -23,15 +24,6 @@ const PHYSICAL_WORD: &[u8] = b"physlog";
 const LOGS_WORD: &[u8] = b"logs";
 
 const BEFORE_WORD: &[u8] = b"before";
-
-// The name of the first space.
-const ROOT: &[u8] = b"root";
-
-/// The most spaces.
-const SPACES: usize = 16;
-
-/// The most chunks of all spaces, without the temporary one.
-const CHUNKS: usize = 31;
 
 /// The most data pages of a space.
 const PAGES: u32 = 65535;
@@ -70,13 +62,13 @@ pub(crate) struct Draft {
 
 impl Draft {
     /// Nothing is read.
-    pub(crate) fn new(alloc: Global) -> Draft
+    pub(crate) fn new() -> Draft
         ensures { reading_in result ≡ nothing_read }
     {
         Draft {
             due: Due::Spaces,
             layout: Layout {
-                spaces: Vec::new(alloc),
+                spaces: ArrayVec::new(),
                 physical_space: 0,
                 physical_entries: 0,
                 log_space: 0,
@@ -88,164 +80,128 @@ impl Draft {
     }
 
     /// Reads a line; false where it may not stand here.
-    pub(crate) fn read_line(&mut self, alloc: Global, line: &[u8]) -> Result<bool, NoMemory>
-        requires few { length self.old.layout.spaces.items ≤ 16 }
-        requires chunks { chunk_count self.old.layout.spaces.items ≤ 31 }
-        ensures { IfOk result (λ good. Reads (after_line (reading_in self.old) line.now) good self.new) }
+    pub(crate) fn read_line(&mut self, line: &[u8]) -> bool
+        requires { chunk_count self.old.layout.spaces.items ≤ 31 }
+        ensures { Reads (after_line (reading_in self.old) line.now) result self.new }
     {
         let (word, rest) = cut(b' ', line);
         match self.due {
-            Due::Spaces => self.read_first(alloc, word, rest),
-            Due::Logs => self.read_logs(alloc, word, rest),
-            Due::Before => self.read_before(alloc, word, rest),
-            Due::Nothing => Ok(false),
+            Due::Spaces => self.read_first(word, rest),
+            Due::Logs => self.read_logs(word, rest),
+            Due::Before => self.read_before(word, rest),
+            Due::Nothing => false,
         }
     }
 
     // A space's line or the physical log's.
-    fn read_first(
-        &mut self,
-        alloc: Global,
-        word: &[u8],
-        rest: Option<&[u8]>,
-    ) -> Result<bool, NoMemory>
-        requires few { length self.old.layout.spaces.items ≤ 16 }
+    fn read_first(&mut self, word: &[u8], rest: Option<&[u8]>) -> bool
         requires chunks { chunk_count self.old.layout.spaces.items ≤ 31 }
         requires due { self.old.due ≡ Due.Spaces }
-        ensures { IfOk result (λ good. Reads (words_read Due.Spaces (config_in self.old.layout) (word.now ∷ words_behind rest.entry)) good self.new) }
+        ensures { Reads (words_read Due.Spaces (config_in self.old.layout) (word.now ∷ words_behind rest.entry)) result self.new }
     {
         let Some(rest) = rest else {
-            return Ok(false);
+            return false;
         };
         let (name, numbers) = cut(b' ', rest);
         if word == SPACE_WORD {
-            return self.add_space(alloc, name, numbers);
+            return self.add_space(name, numbers);
         }
         if word == PHYSICAL_WORD {
-            return self.set_physical(alloc, name, numbers);
+            return self.set_physical(name, numbers);
         }
-        Ok(false)
+        false
     }
 
-    fn add_space(
-        &mut self,
-        alloc: Global,
-        name: &[u8],
-        numbers: Option<&[u8]>,
-    ) -> Result<bool, NoMemory>
-        requires few { length self.old.layout.spaces.items ≤ 16 }
+    fn add_space(&mut self, name: &[u8], numbers: Option<&[u8]>) -> bool
         requires chunks { chunk_count self.old.layout.spaces.items ≤ 31 }
         requires due { self.old.due ≡ Due.Spaces }
-        ensures { IfOk result (λ good. Reads (space_read (config_in self.old.layout) name.now (numbers_of_words (words_behind numbers.entry))) good self.new) }
+        ensures { Reads (space_read (config_in self.old.layout) name.now (numbers_of_words (words_behind numbers.entry))) result self.new }
     {
-        let Some(chunks) = numbers_of(alloc, numbers)? else {
-            return Ok(false);
+        let Some(chunks) = numbers_of(numbers) else {
+            return false;
         };
         let Some(name) = Name::new(name) else {
-            return Ok(false);
+            return false;
         };
         let spaces = self.layout.spaces.as_slice();
         let fits = has_place(spaces, chunks.len())
             && is_new_name(spaces, &name)
             && has_pages(spaces.len(), &chunks);
         if !fits {
-            return Ok(false);
+            return false;
         }
-        self.layout.spaces.push(Space::new(name, chunks))?;
-        Ok(true)
+        self.layout.spaces.push(Space::new(name, chunks));
+        true
     }
 
-    fn set_physical(
-        &mut self,
-        alloc: Global,
-        name: &[u8],
-        numbers: Option<&[u8]>,
-    ) -> Result<bool, NoMemory>
-        requires few { length self.old.layout.spaces.items ≤ 16 }
-        ensures { IfOk result (λ good. Reads (physical_read (config_in self.old.layout) (space_named (config_in self.old.layout) name.now) (numbers_of_words (words_behind numbers.entry))) good self.new) }
+    fn set_physical(&mut self, name: &[u8], numbers: Option<&[u8]>) -> bool
+        ensures { Reads (physical_read (config_in self.old.layout) (space_named (config_in self.old.layout) name.now) (numbers_of_words (words_behind numbers.entry))) result self.new }
     {
         let Some(space) = find_space(&self.layout.spaces, name) else {
-            return Ok(false);
+            return false;
         };
-        let Some(numbers) = numbers_of(alloc, numbers)? else {
-            return Ok(false);
+        let Some(numbers) = numbers_of(numbers) else {
+            return false;
         };
         let [entries] = numbers.as_slice() else {
-            return Ok(false);
+            return false;
         };
         self.layout.physical_space = space as u8;
         self.layout.physical_entries = *entries;
         self.due = Due::Logs;
-        Ok(*entries <= MOST_ENTRIES && self.layout.has_room(space))
+        *entries <= MOST_ENTRIES && self.layout.has_room(space)
     }
 
-    fn read_logs(
-        &mut self,
-        alloc: Global,
-        word: &[u8],
-        rest: Option<&[u8]>,
-    ) -> Result<bool, NoMemory>
-        requires few { length self.old.layout.spaces.items ≤ 16 }
-        ensures { IfOk result (λ good. Reads (words_read Due.Logs (config_in self.old.layout) (word.now ∷ words_behind rest.entry)) good self.new) }
+    fn read_logs(&mut self, word: &[u8], rest: Option<&[u8]>) -> bool
+        ensures { Reads (words_read Due.Logs (config_in self.old.layout) (word.now ∷ words_behind rest.entry)) result self.new }
     {
         let Some(rest) = rest else {
-            return Ok(false);
+            return false;
         };
         let (name, numbers) = cut(b' ', rest);
         if word == LOGS_WORD {
-            return self.set_logs(alloc, name, numbers);
+            return self.set_logs(name, numbers);
         }
-        Ok(false)
+        false
     }
 
-    fn set_logs(
-        &mut self,
-        alloc: Global,
-        name: &[u8],
-        numbers: Option<&[u8]>,
-    ) -> Result<bool, NoMemory>
-        requires few { length self.old.layout.spaces.items ≤ 16 }
-        ensures { IfOk result (λ good. Reads (logs_read (config_in self.old.layout) (space_named (config_in self.old.layout) name.now) (numbers_of_words (words_behind numbers.entry))) good self.new) }
+    fn set_logs(&mut self, name: &[u8], numbers: Option<&[u8]>) -> bool
+        ensures { Reads (logs_read (config_in self.old.layout) (space_named (config_in self.old.layout) name.now) (numbers_of_words (words_behind numbers.entry))) result self.new }
     {
         let Some(space) = find_space(&self.layout.spaces, name) else {
-            return Ok(false);
+            return false;
         };
-        let Some(numbers) = numbers_of(alloc, numbers)? else {
-            return Ok(false);
+        let Some(numbers) = numbers_of(numbers) else {
+            return false;
         };
         let [files, pages] = numbers.as_slice() else {
-            return Ok(false);
+            return false;
         };
         if *files < LEAST_FILES || *files > MOST_FILES {
-            return Ok(false);
+            return false;
         }
         self.layout.log_space = space as u8;
         self.layout.log_files = *files as u8;
         self.layout.log_file_pages = *pages;
         self.due = Due::Before;
-        Ok(*pages >= LEAST_FILE_PAGES && *pages <= MOST_FILE_PAGES && self.layout.has_room(space))
+        *pages >= LEAST_FILE_PAGES && *pages <= MOST_FILE_PAGES && self.layout.has_room(space)
     }
 
-    fn read_before(
-        &mut self,
-        alloc: Global,
-        word: &[u8],
-        rest: Option<&[u8]>,
-    ) -> Result<bool, NoMemory>
-        ensures { IfOk result (λ good. Reads (words_read Due.Before (config_in self.old.layout) (word.now ∷ words_behind rest.entry)) good self.new) }
+    fn read_before(&mut self, word: &[u8], rest: Option<&[u8]>) -> bool
+        ensures { Reads (words_read Due.Before (config_in self.old.layout) (word.now ∷ words_behind rest.entry)) result self.new }
     {
         if word != BEFORE_WORD {
-            return Ok(false);
+            return false;
         }
-        let Some(numbers) = numbers_of(alloc, rest)? else {
-            return Ok(false);
+        let Some(numbers) = numbers_of(rest) else {
+            return false;
         };
         let [limit] = numbers.as_slice() else {
-            return Ok(false);
+            return false;
         };
         self.layout.image_limit = *limit;
         self.due = Due::Nothing;
-        Ok(*limit <= MOST_IMAGES)
+        *limit <= MOST_IMAGES
     }
 }
 

@@ -2,14 +2,21 @@
 
 ghost use Rattle.std.specs.List.{flat_map};
 ghost use Rattle.std.specs.Prelude.{◌≡◌, ◌≤◌, ◌∷◌, ◌++◌, [], length, position, bytes_eq, slice_index, sum, IfSome, if◌then◌else◌, ◌==◌, ◌*◌, ◌+◌, ◌<◌};
-ghost use Rattle.ol_values.specs.Config.{SpaceConfig, area_pages as area_pages_in};
+ghost use Rattle.ol_values.specs.Config.{SpaceConfig, area_pages as area_pages_in, space_at};
 ghost use Rattle.ol_chunks.specs.Drafts.{config_in};
 ghost use Rattle.ol_chunks.specs.Limits.{chunk_count, reserved_pages as reserved_pages_of};
-ghost use Rattle.ol_chunks.specs.Places.{first_number as first_number_in, holder_from, place_among as place_among_chunks};
+ghost use Rattle.ol_chunks.specs.Places.{first_chunk_number as first_number_in, holder_from, place_among as place_among_chunks};
 ghost use Rattle.ol_chunks.specs.Reading.{has_room as has_room_in};
 
 use crate::name::Name;
+use arrayvec::ArrayVec;
 use std::marker::Model;
+
+/// The most spaces.
+pub(crate) const SPACES: usize = 16;
+
+/// The most chunks of all spaces, without the temporary one.
+pub(crate) const CHUNKS: usize = 31;
 
 /// The reserved pages at the front of root.
 pub(crate) const RESERVED: u32 = 12;
@@ -18,7 +25,7 @@ pub(crate) const RESERVED: u32 = 12;
 #[derive(Debug, Drop)]
 pub(crate) struct Space {
     name: Name,
-    chunks: Vec<u16>,
+    chunks: ArrayVec<u16, CHUNKS>,
 }
 
 impl Model for Space {
@@ -29,8 +36,18 @@ impl Model for Space {
     ghost view = { λ s. record { name = s.name; chunks = s.chunks.items } };
 }
 
+/// What stands in the places of a list that hold no space.
+impl Default for Space {
+    fn default() -> Space {
+        Space {
+            name: Name::root(),
+            chunks: ArrayVec::new(),
+        }
+    }
+}
+
 impl Space {
-    pub(crate) fn new(name: Name, chunks: Vec<u16>) -> Space
+    pub(crate) fn new(name: Name, chunks: ArrayVec<u16, CHUNKS>) -> Space
         ensures { result ≡ (let s : SpaceConfig = record { name = name; chunks = chunks.items } in s) }
     {
         Space { name, chunks }
@@ -53,7 +70,7 @@ impl Space {
 /// What a configuration says. What isn't read yet is zero.
 #[derive(Debug, Drop)]
 pub(crate) struct Layout {
-    pub(crate) spaces: Vec<Space>,
+    pub(crate) spaces: ArrayVec<Space, SPACES>,
     pub(crate) physical_space: u8,
     pub(crate) physical_entries: u16,
     pub(crate) log_space: u8,
@@ -63,12 +80,20 @@ pub(crate) struct Layout {
 }
 
 impl Layout {
+    /// The pages of each chunk of a space.
+    pub(crate) fn chunks(&self, space: usize) -> &[u16]
+        requires { space < length self.now.spaces.items }
+        ensures { result.now ≡ (space_at (config_in self.now) space).chunks }
+    {
+        self.spaces[space].chunks()
+    }
+
     /// What stands in front of the space's data pages leaves one of them in the first chunk.
     pub(crate) fn has_room(&self, space: usize) -> bool
         requires { space < length self.now.spaces.items }
         ensures { result ≡ has_room_in (config_in self.now) space }
     {
-        self.area_pages(space) < u32::from(first_of(self.spaces[space].chunks()))
+        self.area_pages(space) < u32::from(first_of(self.chunks(space)))
     }
 
     /// The pages in front of the space's data pages.

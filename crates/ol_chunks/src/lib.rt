@@ -10,7 +10,8 @@ mod table;
 mod words;
 
 pub use laws::{
-    areas_are_apart, chunks_are_of_their_spaces, places_are_apart, read_is_text, text_is_read,
+    chunks_are_of_their_spaces, data_pages_have_places, parts_are_apart, places_are_apart,
+    read_is_text, text_is_read,
 };
 pub use name::Name;
 pub use parse::{ConfigFault, parse_config};

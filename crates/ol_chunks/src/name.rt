@@ -1,12 +1,15 @@
 //! The names of spaces.
 
-ghost use Rattle.std.specs.Prelude.{◌≡◌, ◌||◌, true};
+ghost use Rattle.std.specs.Prelude.{◌≡◌, ◌||◌, codes, true};
 ghost use Rattle.std.specs.List.{list_all};
 ghost use Rattle.std.specs.Option.{SomeIff};
 ghost use Rattle.ol_values.specs.Config.{begins_small as bytes_begin_small, is_digit as is_digit_byte, is_name as is_name_bytes, is_small_letter as is_small_letter_byte};
 
 use ol_values::{LABEL_LIMIT, Label};
 use std::marker::Model;
+
+/// The bytes of the name of the first space.
+pub(crate) const ROOT: &[u8] = b"root";
 
 /// The name of a space: a small letter, and then at most 7 small letters or digits. Contracts
 /// see it as the list of its bytes.
@@ -29,6 +32,13 @@ impl Model for Name {
 }
 
 impl Name {
+    /// The name of the first space.
+    pub(crate) fn root() -> Name
+        ensures { result ≡ codes "root" }
+    {
+        Name::new(ROOT).unwrap()
+    }
+
     /// The name of these bytes; None exactly where they are no name.
     pub fn new(bytes: &[u8]) -> Option<Name>
         ensures { SomeIff result (is_name_bytes bytes.now ≡ true) bytes.now }

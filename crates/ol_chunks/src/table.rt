@@ -4,13 +4,18 @@ ghost use Rattle.std.specs.Prelude.{◌≡◌, ◌≤◌, ◌<◌, ◌+◌, ◌*
 ghost use Rattle.ol_values.specs.Config.{config_text, data_pages, space_at, space_named};
 ghost use Rattle.ol_chunks.specs.Drafts.{config_in};
 ghost use Rattle.ol_chunks.specs.Limits.{IsConfig, chunk_count};
-ghost use Rattle.ol_chunks.specs.Places.{chunk_pages, holder_of, image_area, is_critical, log_area, physical_area, place_of};
+ghost use Rattle.ol_rules.specs.Restored.{is_critical};
+ghost use Rattle.ol_chunks.specs.Places.{chunk_pages, space_holding, image_area, log_area, physical_area, place_in_chunks};
 
 use crate::layout::{
     Layout, all_pages, count_chunks, find_space, holder, place_among, reserved_pages, size_of_chunk,
 };
 use crate::name::Name;
+use ol_values::Bytes;
 use std::marker::Model;
+
+/// The most bytes that a text has.
+pub(crate) const TEXT_LIMIT: usize = 1024;
 
 /// Entries, files or images that lie one behind the other in a chunk.
 #[derive(Clone, Copy, Debug, PartialEq, Eq)]
@@ -26,15 +31,15 @@ pub struct Area {
 }
 
 /// A configuration, which contracts see as a value that is within all limits. Its text is kept, as it is
-/// asked for again.
+/// asked for again. All of it is held in place, so that a table takes no memory.
 #[derive(Debug, Drop)]
 pub struct ChunkTable {
     layout: Layout,
-    text: Vec<u8>,
+    text: Bytes<TEXT_LIMIT>,
 }
 
 impl Model for ChunkTable {
-    ghost use Rattle.std.specs.Prelude.{◌≡◌, ◌≤◌, length};
+    ghost use Rattle.std.specs.Prelude.{◌≡◌};
     ghost use Rattle.ol_values.specs.Config.{Config, config_text};
 
     ghost Value = { Config };
@@ -44,15 +49,14 @@ impl Model for ChunkTable {
 
     ghost view = { λ t. config_in t.layout };
 
-    ghost invariant = { λ t. IsConfig (config_in t.layout) × (t.text.items ≡ config_text (config_in t.layout)) × (length t.text.items ≤ 1024) };
+    ghost invariant = { λ t. IsConfig (config_in t.layout) × (t.text ≡ config_text (config_in t.layout)) };
 }
 
 impl ChunkTable {
     /// The table of a layout and its text.
-    pub(crate) fn new(layout: Layout, text: Vec<u8>) -> ChunkTable
+    pub(crate) fn new(layout: Layout, text: Bytes<TEXT_LIMIT>) -> ChunkTable
         requires config { IsConfig (config_in layout) }
-        requires text { text.items ≡ config_text (config_in layout) }
-        requires limit { length text.items ≤ 1024 }
+        requires text { text ≡ config_text (config_in layout) }
         ensures { result ≡ config_in layout }
     {
         ChunkTable { layout, text }
@@ -65,9 +69,9 @@ impl ChunkTable {
         ensures limit { result ≤ 1024 }
         ensures text { buf.new ≡ config_text self.now ++ drop result buf.old }
     {
-        let length = self.text.len();
-        buf[..length].copy_from_slice(&self.text);
-        length
+        let text = self.text.as_slice();
+        buf[..text.len()].copy_from_slice(text);
+        text.len()
     }
 
     /// How many spaces there are.
@@ -113,7 +117,7 @@ impl ChunkTable {
         ensures limit { result ≤ 65535 }
     {
         let space = usize::from(space);
-        all_pages(self.layout.spaces[space].chunks()) - self.layout.area_pages(space)
+        all_pages(self.layout.chunks(space)) - self.layout.area_pages(space)
     }
 
     /// How many chunks there are, with the temporary one, which is the last.
@@ -140,7 +144,7 @@ impl ChunkTable {
 
     /// The space that a chunk is one of; None for the temporary chunk, and where there is no such chunk.
     pub fn space_of(&self, chunk: u8) -> Option<u8>
-        ensures value { result ≡ holder_of self.now chunk }
+        ensures value { result ≡ space_holding self.now chunk }
         ensures there { IfSome result (λ space. space < length self.now.spaces) }
     {
         let space = holder(&self.layout.spaces, usize::from(chunk))?;
@@ -149,7 +153,7 @@ impl ChunkTable {
 
     /// The chunk and the page in it where a data page of a space lies; None where the space has no such page.
     pub fn place(&self, space: u8, page: u16) -> Option<(u8, u32)>
-        ensures value { result ≡ place_of self.now space page }
+        ensures value { result ≡ place_in_chunks self.now space page }
         ensures inside { IfSome result (λ p. p.1 < chunk_pages self.now p.0) }
         ensures config { IsConfig self.now }
     {
@@ -159,7 +163,7 @@ impl ChunkTable {
         }
         let behind = self.layout.area_pages(space) + u32::from(page);
         let first = self.layout.first_number(space);
-        let (chunk, page) = place_among(first, self.layout.spaces[space].chunks(), behind)?;
+        let (chunk, page) = place_among(first, self.layout.chunks(space), behind)?;
         Some((chunk as u8, page))
     }
 

@@ -1,8 +1,8 @@
 -- What contracts see of devices that are files.
 use Rattle.std.specs.Global.{Global}
 use Rattle.std.specs.Prelude.{ℕ, ◌≡◌, ◌-◌, ◌^◌, Bool, if◌then◌else◌, List, None, Option, Vec, map, min, slice_index, slice_index_or, slice_set}
-use Rattle.ol_outside.specs.Causes.{risen}
-use Rattle.ol_outside.specs.Drive.{Tape}
+use Rattle.ol_ports.specs.Causes.{risen}
+use Rattle.ol_ports.specs.Drive.{Tape}
 
 -- the pages of a chunk, which are a u32, where those of each are given
 abbrev pub pages_at : List ℕ → ℕ → ℕ
@@ -13,16 +13,16 @@ abbrev pub faults_at : List ℕ → ℕ → ℕ
 faults_at counts c = slice_index counts c
 
 -- the chunk's file is not open, where those that are stand in this list
-abbrev pub IsShut : {X : Type 0} → List (Option X) → ℕ → Type 0
-IsShut files c = slice_index_or files c None ≡ None
+abbrev pub IsMissing : {X : Type 0} → List (Option X) → ℕ → Type 0
+IsMissing files c = slice_index_or files c None ≡ None
 
 -- a call on a chunk more, which is one fault more of this chunk where it failed
 abbrev pub after_chunk_call : Bool → ℕ → List ℕ → List ℕ
 after_chunk_call failed c counts = if failed then slice_set counts c (risen (faults_at counts c)) else counts
 
 -- a call more, which is one fault more where it failed
-abbrev pub after_call : Bool → ℕ → ℕ
-after_call failed count = if failed then risen count else count
+abbrev pub count_after : Bool → ℕ → ℕ
+count_after failed count = if failed then risen count else count
 
 pub record FileDriveState : Type 0 where
   -- the folder that has its folder

@@ -23,23 +23,23 @@ pub record OptionLine : Type 0 where
 -- ---- values
 
 -- the number from 1 to 4,294,967,295 that a word is in decimal
-abbrev pub number_of : List ℕ → Option ℕ
-number_of word = number_up_to 4294967295 word
+abbrev pub option_number : List ℕ → Option ℕ
+option_number word = number_up_to 4294967295 word
 
 -- the numbers that words are, where each is one
-abbrev pub numbers_of : List (List ℕ) → Option (List ℕ)
-numbers_of words = numbers_up_to 4294967295 words
+abbrev pub option_numbers : List (List ℕ) → Option (List ℕ)
+option_numbers words = numbers_up_to 4294967295 words
 
 -- at most 32 numbers, with one comma between two
 abbrev pub chunk_list : List ℕ → Option (List ℕ)
-chunk_list word = option_and_then (λ numbers. if nat_le (length numbers) 32 then Some numbers else None) (numbers_of (slice_split (λ b. b == 44) word))
+chunk_list word = option_and_then (λ numbers. if nat_le (length numbers) 32 then Some numbers else None) (option_numbers (slice_split (λ b. b == 44) word))
 
 -- ---- options
 
 -- a number as the first word, and the words behind it
 abbrev pub number_then : List (List ℕ) → Option (ℕ × List (List ℕ))
 number_then [] = None
-number_then (value ∷ words) = option_map (λ n. (n, words)) (number_of value)
+number_then (value ∷ words) = option_map (λ n. (n, words)) (option_number value)
 
 -- the value of an option of this name and the words behind it, or where it isn't next the value that then counts
 abbrev pub number_option : List ℕ → ℕ → List (List ℕ) → Option (ℕ × List (List ℕ))
@@ -67,13 +67,13 @@ is_option_next (word ∷ words) = is_option word
 -- ---- a line
 
 -- the line of these options, where none comes twice or behind its place
-abbrev pub ended : List ℕ → List ℕ → ℕ → ℕ × List (List ℕ) → Option OptionLine
-ended dir chunks blocks last =
+abbrev pub ended_line : List ℕ → List ℕ → ℕ → ℕ × List (List ℕ) → Option OptionLine
+ended_line dir chunks blocks last =
     if is_option_next last.1 then None
     else Some (record { dir = dir; chunks = chunks; blocks = blocks; volumes = last.0; words = last.1 })
 
 abbrev pub volumes_next : List ℕ → List ℕ → ℕ × List (List ℕ) → Option OptionLine
-volumes_next dir chunks blocks = option_and_then (ended dir chunks blocks.0) (number_option (codes "--volumes") 1000 blocks.1)
+volumes_next dir chunks blocks = option_and_then (ended_line dir chunks blocks.0) (number_option (codes "--volumes") 1000 blocks.1)
 
 abbrev pub blocks_next : List ℕ → List ℕ × List (List ℕ) → Option OptionLine
 blocks_next dir chunks = option_and_then (volumes_next dir chunks.0) (number_option (codes "--blocks") 100000 chunks.1)
@@ -95,11 +95,11 @@ abbrev pub texts : List (String Global) → List (List ℕ)
 texts words = map (λ word. string_bytes word) words
 
 -- the line that options stand for
-abbrev pub line_of : Options → OptionLine
-line_of o = record { dir = o.dir.now; chunks = o.chunks.items; blocks = o.blocks; volumes = o.volumes; words = texts o.words.now }
+abbrev pub line_of_options : Options → OptionLine
+line_of_options o = record { dir = o.dir.now; chunks = o.chunks.items; blocks = o.blocks; volumes = o.volumes; words = texts o.words.now }
 
 -- the options are those of the line, and are refused exactly where the line has none; want of memory tells nothing
 abbrev pub AnswersLine : Option OptionLine → Result Options OptionFault → Type 0
-AnswersLine line (Ok o) = line ≡ Some (line_of o)
+AnswersLine line (Ok o) = line ≡ Some (line_of_options o)
 AnswersLine line (Err BadOptions) = line ≡ None
 AnswersLine line (Err NoMemory) = Unit {0}

@@ -1,13 +1,13 @@
 //! A disk of chunk files.
 
 ghost use Rattle.std.specs.Prelude.{◌≡◌, ◌<◌, ◌≤◌, ◌/◌, ◌+◌, ◌-◌, ◌^◌, false, [], get_or, if◌then◌else◌, is_err, length, min, replicate, slice_index, slice_set, true, IfOk};
-ghost use Rattle.ol_outside.specs.Causes.{HasChunkCause, risen};
-ghost use Rattle.ol_devices.specs.Files.{IsShut, after_chunk_call, pages_at, faults_at};
+ghost use Rattle.ol_ports.specs.Causes.{HasChunkCause, risen};
+ghost use Rattle.ol_devices.specs.Files.{IsMissing, after_chunk_call, pages_at, faults_at};
 
 use crate::device_file::{DeviceFile, sync_folder};
 use crate::fault::fault;
 use crate::paths::chunk_path;
-use ol_outside::{Disk, Failed, NoMemory, PAGE_LENGTH};
+use ol_ports::{Disk, Failed, NoMemory, PAGE_LENGTH};
 use std::io;
 use std::io::ErrorKind;
 
@@ -101,7 +101,7 @@ impl FileDisk {
 
     // The file of a chunk.
     fn file(&self, chunk: u8) -> io::Result<&DeviceFile>
-        ensures { IsShut self.now.files.items chunk → is_err result ≡ true }
+        ensures { IsMissing self.now.files.items chunk → is_err result ≡ true }
     {
         match self.files.get(chunk as usize) {
             Some(Some(file)) => Ok(file),
@@ -124,7 +124,7 @@ impl Disk for FileDisk {
 
     ghost moment = { λ d. d.moment };
 
-    ghost counted = { λ d told below. absurd told };
+    ghost counted = { λ d told. absurd told };
 
     ghost bounded = { λ d chunk. Prim.omega arith };
 
@@ -147,7 +147,7 @@ impl Disk for FileDisk {
         ensures cause { HasChunkCause chunk (faults_at self.old.counts) (faults_at self.new.counts) result }
 
         ensures counted { self.new.counts ≡ after_chunk_call (is_err result) chunk self.old.counts }
-        ensures shut { IsShut self.old.files.items chunk → is_err result ≡ true }
+        ensures shut { IsMissing self.old.files.items chunk → is_err result ≡ true }
     {
         match read_page(self.file(chunk), page, buf) {
             Ok(()) => Ok(()),
@@ -166,7 +166,7 @@ impl Disk for FileDisk {
         ensures cause { HasChunkCause chunk (faults_at self.old.counts) (faults_at self.new.counts) result }
 
         ensures counted { self.new.counts ≡ after_chunk_call (is_err result) chunk self.old.counts }
-        ensures shut { IsShut self.old.files.items chunk → is_err result ≡ true }
+        ensures shut { IsMissing self.old.files.items chunk → is_err result ≡ true }
     {
         self.moment = self.moment.saturating_add(1);
         match write_piece(self.file(chunk), page, offset, bytes) {
@@ -186,7 +186,7 @@ impl Disk for FileDisk {
         ensures cause { HasChunkCause chunk (faults_at self.old.counts) (faults_at self.new.counts) result }
 
         ensures counted { self.new.counts ≡ after_chunk_call (is_err result) chunk self.old.counts }
-        ensures shut { IsShut self.old.files.items chunk → is_err result ≡ true }
+        ensures shut { IsMissing self.old.files.items chunk → is_err result ≡ true }
         ensures lost { self.new.lost ≡ (if is_err result then slice_set self.old.lost chunk true else self.old.lost) }
         ensures never_again { get_or self.old.lost chunk false ≡ true → is_err result ≡ true }
     {

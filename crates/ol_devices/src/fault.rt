@@ -1,9 +1,9 @@
 //! The count of the faults of a device.
 
 ghost use Rattle.std.specs.Prelude.{◌≡◌, ◌≤◌};
-ghost use Rattle.ol_outside.specs.Causes.{Rose, risen};
+ghost use Rattle.ol_ports.specs.Causes.{Rose, risen};
 
-use ol_outside::Failed;
+use ol_ports::Failed;
 
 /// Counts a fault, up to the greatest `u64`.
 pub(crate) fn fault(count: &mut u64) -> Failed

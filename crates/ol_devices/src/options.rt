@@ -6,7 +6,7 @@ ghost use Rattle.ol_devices.specs.OptionLine.{AnswersLine, chunk_list, is_option
 ghost use Rattle.ol_devices.specs.Pieces.{with_texts, list_with_texts};
 
 use crate::disk_file::CHUNKS;
-use ol_outside::NoMemory;
+use ol_ports::NoMemory;
 use ol_words::{number, numbers};
 use std::alloc::Global;
 

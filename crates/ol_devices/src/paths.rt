@@ -3,7 +3,7 @@
 ghost use Rattle.std.specs.Prelude.{◌≡◌, IfOk, string_bytes};
 ghost use Rattle.ol_devices.specs.Names.{chunk_name, folder_name, tapes_name, volume_name};
 
-use ol_outside::NoMemory;
+use ol_ports::NoMemory;
 
 /// The file of a chunk.
 pub(crate) fn chunk_path(rt: &HostRuntime, dir: &str, chunk: usize) -> Result<String, NoMemory>

@@ -2,15 +2,15 @@
 
 ghost use Rattle.std.specs.Prelude.{◌≡◌, ◌<◌, [], IfOk, IfSome, None, false, is_err, length, string_bytes, true};
 ghost use Rattle.std.proofs.Common.{get_or};
-ghost use Rattle.ol_outside.specs.Causes.{HasCause};
-ghost use Rattle.ol_outside.specs.Shelf.{HasBlock, HasVolume, block_count, volume_count};
-ghost use Rattle.ol_devices.specs.Files.{after_call, block_counts};
+ghost use Rattle.ol_ports.specs.Causes.{HasCause};
+ghost use Rattle.ol_ports.specs.Shelf.{HasBlock, HasVolume, block_count, volume_count};
+ghost use Rattle.ol_devices.specs.Files.{count_after, block_counts};
 
 use crate::device_file::DeviceFile;
 use crate::fault::fault;
 use crate::paths::volume_path;
 use crate::tape_file::{BLOCK_BYTES, volumes_there};
-use ol_outside::{BLOCK_LENGTH, DRIVES, Failed, NoMemory, Shelf};
+use ol_ports::{BLOCK_LENGTH, DRIVES, Failed, NoMemory, Shelf};
 use std::io;
 
 /// A shelf of the volumes that are files of a folder, which tells nothing of its blocks.
@@ -77,7 +77,7 @@ impl Shelf for FileShelf {
         ensures shape { block_counts self.new.drives.items ≡ block_counts self.old.drives.items }
         ensures cause { HasCause self.old.failed_calls self.new.failed_calls result }
 
-        ensures counted { self.new.failed_calls ≡ after_call (is_err result) self.old.failed_calls }
+        ensures counted { self.new.failed_calls ≡ count_after (is_err result) self.old.failed_calls }
         ensures uncounted { get_or self.old.uncounted drive false ≡ true → is_err result ≡ true }
     {
         match count_of(
@@ -118,7 +118,7 @@ impl Shelf for FileShelf {
         ensures shape { block_counts self.new.drives.items ≡ block_counts self.old.drives.items }
         ensures cause { HasCause self.old.failed_calls self.new.failed_calls result }
 
-        ensures counted { self.new.failed_calls ≡ after_call (is_err result) self.old.failed_calls }
+        ensures counted { self.new.failed_calls ≡ count_after (is_err result) self.old.failed_calls }
     {
         match read_block(&self.rt, &self.dir, drive, volume, block, buf) {
             Ok(()) => Ok(()),

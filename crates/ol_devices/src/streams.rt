@@ -3,11 +3,11 @@
 ghost use Rattle.std.specs.Prelude.{◌≡◌, ◌<◌, IfOk, is_err, length};
 ghost use Rattle.std.specs.Io.{ReadsAtMost, WritesAtMost};
 ghost use Rattle.std.specs.Io.KnownBytes.{Keeps, ReadConsumes, WriteAppends};
-ghost use Rattle.ol_outside.specs.Causes.{HasCause};
-ghost use Rattle.ol_devices.specs.Files.{after_call};
+ghost use Rattle.ol_ports.specs.Causes.{HasCause};
+ghost use Rattle.ol_devices.specs.Files.{count_after};
 
 use crate::fault::fault;
-use ol_outside::{Failed, Sink, Source};
+use ol_ports::{Failed, Sink, Source};
 use std::io;
 use std::io::{Read, Write};
 
@@ -41,7 +41,7 @@ impl<R: Read> Source for ReaderSource<R> {
         ensures bytes { ReadConsumes (R.remaining self.old.reader) (R.remaining self.new.reader) result buf.new }
         ensures cause { HasCause self.old.failed_reads self.new.failed_reads result }
 
-        ensures counted { self.new.failed_reads ≡ after_call (is_err result) self.old.failed_reads }
+        ensures counted { self.new.failed_reads ≡ count_after (is_err result) self.old.failed_reads }
     {
         match self.reader.read(buf) {
             Ok(count) => Ok(count),
@@ -94,7 +94,7 @@ impl<W: Write> Sink for WriterSink<W> {
         ensures bytes { WriteAppends (W.contents self.old.writer) (W.contents self.new.writer) result bytes.now }
         ensures cause { HasCause self.old.failed_writes self.new.failed_writes result }
 
-        ensures counted { self.new.failed_writes ≡ after_call (is_err result) self.old.failed_writes }
+        ensures counted { self.new.failed_writes ≡ count_after (is_err result) self.old.failed_writes }
     {
         match self.writer.write(bytes) {
             // a writer that takes nothing would be asked again and again

@@ -1,16 +1,16 @@
 //! A tape drive whose volumes are files.
 
 ghost use Rattle.std.specs.Prelude.{◌≡◌, ◌<◌, ◌≤◌, ◌/◌, ◌-◌, ◌^◌, None, false, is_err, length, min, replicate, string_bytes, true, IfOk};
-ghost use Rattle.ol_outside.specs.Causes.{HasCause, Rose, risen};
-ghost use Rattle.ol_outside.specs.Drive.{Mounts, Syncs, Writes, spoilt};
-ghost use Rattle.ol_outside.specs.declared.drive.Mounted.TheVariants.{Failed as MountFailed};
-ghost use Rattle.ol_outside.specs.declared.drive.Wrote.TheVariants.{Failed as WriteFailed};
-ghost use Rattle.ol_devices.specs.Files.{FileDriveState, IsSameDrive, after_call};
+ghost use Rattle.ol_ports.specs.Causes.{HasCause, Rose, risen};
+ghost use Rattle.ol_ports.specs.Drive.{Mounts, Syncs, Writes, without_room};
+ghost use Rattle.ol_ports.specs.declared.drive.Mounted.TheVariants.{Failed as MountFailed};
+ghost use Rattle.ol_ports.specs.declared.drive.Wrote.TheVariants.{Failed as WriteFailed};
+ghost use Rattle.ol_devices.specs.Files.{FileDriveState, IsSameDrive, count_after};
 
 use crate::device_file::{DeviceFile, sync_folder};
 use crate::fault::fault;
 use crate::paths::{folder_path, tapes_path, volume_path};
-use ol_outside::{BLOCK_LENGTH, Drive, Failed, Mounted, NoMemory, Wrote};
+use ol_ports::{BLOCK_LENGTH, Drive, Failed, Mounted, NoMemory, Wrote};
 use std::io::ErrorKind;
 use std::marker::Model;
 use std::{fs, io};
@@ -163,7 +163,7 @@ impl Drive for FileDrive {
         ensures cause { result ≡ WriteFailed → Rose self.old.count self.new.count }
         ensures kept { (result ≡ WriteFailed → ⊥) → self.new.count ≡ self.old.count }
 
-        ensures failed { result ≡ WriteFailed → self.new.tape ≡ spoilt self.old.tape }
+        ensures failed { result ≡ WriteFailed → self.new.tape ≡ without_room self.old.tape }
         ensures counted { result ≡ WriteFailed → self.new.count ≡ risen self.old.count }
         ensures lost { self.new.lost ≡ self.old.lost }
         ensures place { IsSameDrive self.old self.new }
@@ -192,7 +192,7 @@ impl Drive for FileDrive {
         ensures gives { Syncs self.old.tape result self.new.tape }
         ensures cause { HasCause self.old.count self.new.count result }
 
-        ensures counted { self.new.count ≡ after_call (is_err result) self.old.count }
+        ensures counted { self.new.count ≡ count_after (is_err result) self.old.count }
         ensures lost { self.new.lost ≡ is_err result }
         ensures never_again { self.old.lost ≡ true → is_err result ≡ true }
         ensures place { IsSameDrive self.old self.new }

@@ -3,7 +3,6 @@
 use crate::disks::{calls, stopped};
 use ol_outside::{Choice, Disk, MemoryDisk, PAGE_LENGTH};
 use ol_reserve::{Anchor, ConfigText, Pair, ReserveFault};
-use std::alloc::Global;
 use std::test::Fail;
 
 /// Two spaces of one chunk each, all areas in the first.
@@ -15,12 +14,12 @@ fn sample(text: ConfigText) -> Anchor {
     let mut anchor = Anchor {
         state: 1,
         serial: 1,
-        incarnation: 0x1112_1314_1516_1718,
+        incarnation: 0x0112_1314_1516_1718,
         position: 0x2122_2324_2526_2728,
-        generation: 0x3132_3334_3536_3738,
+        generation: 0x0132_3334_3536_3738,
         next_archive: 0x0142_4344_4546_4748,
         backed: 0x0152_5354_5556_5758,
-        uniq: 0x4000_0000_0000_0000,
+        uniq: 0x1000_0000_0000_0000,
         need: 0x0172_7374_7576_7778,
         states: [1, 2, 0, 0, 0, 0, 0, 0, 0, 0, 0, 0, 0, 0, 0, 0],
         down_at: [0; 16],
@@ -51,9 +50,9 @@ fn is_anchor(page: &[u8; PAGE_LENGTH], anchor: &mut Anchor, serial: u64) -> bool
 }
 
 /// Whether the newest anchor of a disk is this one with this serial. Serial 0 is none.
-fn is_newest<D: Disk>(alloc: Global, disk: &mut D, anchor: &mut Anchor, serial: u64) -> bool {
+fn is_newest<D: Disk>(disk: &mut D, anchor: &mut Anchor, serial: u64) -> bool {
     let mut page = [0; PAGE_LENGTH];
-    match Pair::newest(alloc, disk, &mut page) {
+    match Pair::newest(disk, &mut page) {
         Ok(()) => is_anchor(&page, anchor, serial),
         Err(ReserveFault::Blank) => serial == 0,
         Err(_) => false,
@@ -62,7 +61,6 @@ fn is_newest<D: Disk>(alloc: Global, disk: &mut D, anchor: &mut Anchor, serial: 
 
 /// Whether a stop, behind the last call at moment 0, leaves the anchor with this serial.
 fn leaves(
-    alloc: Global,
     disk: &MemoryDisk,
     moment: u64,
     choice: Choice,
@@ -70,7 +68,7 @@ fn leaves(
     serial: u64,
 ) -> bool {
     match stopped(disk, moment, choice) {
-        Some(mut left) => is_newest(alloc, &mut left, anchor, serial),
+        Some(mut left) => is_newest(&mut left, anchor, serial),
         None => false,
     }
 }
@@ -86,7 +84,6 @@ const CHOICES: [Choice; 5] = [
 /// Whether each stop within the calls behind the first `before` leaves the anchor with this serial or the one before,
 /// and a stop behind the last call this one.
 fn leave_either(
-    alloc: Global,
     disk: &MemoryDisk,
     before: u64,
     choice: Choice,
@@ -95,34 +92,27 @@ fn leave_either(
 ) -> bool {
     for moment in before..calls(disk) {
         let moment = moment.saturating_add(1);
-        if !leaves(alloc, disk, moment, choice, anchor, serial)
-            && !leaves(
-                alloc,
-                disk,
-                moment,
-                choice,
-                anchor,
-                serial.saturating_sub(1),
-            )
+        if !leaves(disk, moment, choice, anchor, serial)
+            && !leaves(disk, moment, choice, anchor, serial.saturating_sub(1))
         {
             return false;
         }
     }
-    before < calls(disk) && leaves(alloc, disk, 0, choice, anchor, serial)
+    before < calls(disk) && leaves(disk, 0, choice, anchor, serial)
 }
 
 /// Whether an anchor with this serial is written, and each stop leaves what it may.
-fn is_kept(alloc: Global, disk: &mut MemoryDisk, anchor: &mut Anchor, serial: u64) -> bool {
+fn is_kept(disk: &mut MemoryDisk, anchor: &mut Anchor, serial: u64) -> bool {
     let before = calls(disk);
     if !is_written(disk, anchor, serial) {
         return false;
     }
     for choice in CHOICES {
-        if !leave_either(alloc, disk, before, choice, anchor, serial) {
+        if !leave_either(disk, before, choice, anchor, serial) {
             return false;
         }
     }
-    is_newest(alloc, disk, anchor, serial)
+    is_newest(disk, anchor, serial)
 }
 
 #[test]
@@ -130,13 +120,10 @@ fn stop_within_a_write_leaves_the_old_or_the_new_anchor(rt: HostRuntime) -> Resu
     let text = ConfigText::new(SMALL_CONFIG).ok_or("no text")?;
     let mut disk = MemoryDisk::new(rt.alloc(), &[2, 8], &[])?;
     let mut anchor = sample(text);
-    assert!(rt; is_newest(rt.alloc(), &mut disk, &mut anchor, 0));
+    assert!(rt; is_newest(&mut disk, &mut anchor, 0));
     // the third and the fourth go over the first and the second
     for serial in 1..=4 {
-        assert!(rt;
-            is_kept(rt.alloc(), &mut disk, &mut anchor, serial),
-            "anchor {serial}"
-        );
+        assert!(rt; is_kept(&mut disk, &mut anchor, serial), "anchor {serial}");
     }
     Ok(())
 }

@@ -1,7 +1,7 @@
 //! The shelf in memory: it gives the blocks of its volumes, and fails where it is told.
 
 ghost use Rattle.std.specs.Prelude.{◌≡◌, ◌<◌, IfOk, IsTrue, length};
-ghost use Rattle.ol_outside.specs.Shelf.{HasBlock, volumes_at};
+ghost use Rattle.ol_ports.specs.Shelf.{HasBlock, volumes_at};
 
 use ol_outside::{
     BLOCK_LENGTH, DRIVES, Drive, Failed, MemoryDrive, MemoryShelf, Mounted, Shelf, Volumes, Wrote,

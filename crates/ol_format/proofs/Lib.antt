@@ -1,5 +1,4 @@
-pub mod Stops
-pub mod Clearing
-pub mod FirstAnchor
-pub mod Formatting
-pub mod Frames
+mod Clearing
+mod FirstAnchor
+mod Formatting
+mod Spaces

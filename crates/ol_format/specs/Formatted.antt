@@ -1,10 +1,11 @@
 -- A disk that holds a newly formatted installation.
-use Rattle.std.specs.Prelude.{None, Some, suc, zero, ℕ, ◌*◌, ◌+◌, ◌<◌, ◌≡◌, ◌≢◌, ◌≤◌, ◌⊎◌}
+use Rattle.std.specs.Prelude.{Bool, None, Some, nat_lt, suc, zero, ℕ, ◌&&◌, ◌*◌, ◌+◌, ◌<◌, ◌==◌, ◌≡◌, ◌≢◌, ◌≤◌, ◌⊎◌}
 use Rattle.ol_chunks.specs.Limits.{chunk_count}
-use Rattle.ol_chunks.specs.Places.{chunk_pages, log_area, physical_area, place_of}
+use Rattle.ol_chunks.specs.Places.{chunk_pages, log_area, physical_area, place_in_chunks}
 use Rattle.ol_values.specs.Config.{Config}
-use Rattle.ol_outside.specs.Disk.{Bytes, Leaves, Past, Rest, seen}
-use Rattle.ol_reserve.specs.Pair.{IsShut, Newest}
+use Rattle.ol_ports.specs.Disk.{Bytes, Past, Rest}
+use Rattle.ol_ports.specs.Frames.{FramedAt, IsSettledIn, ReadsAs, in_pages}
+use Rattle.ol_reserve.specs.Pair.{IsShut, Newest, is_pair}
 use Rattle.ol_format.specs.First.{first_anchor}
 
 -- a page of zeros
@@ -17,30 +18,17 @@ pub record IsFormatted (d : Bytes) (c : Config) : Type 0 where
   pub reserved : (page : ℕ) → 2 ≤ page → page < 12 → IsZero d 0 page
   pub logs : (k : ℕ) → k < (log_area c).count * (log_area c).pages → d (log_area c).chunk ((log_area c).first + k) 0 ≢ 1
   pub physical : (k : ℕ) → k < (physical_area c).count → d (physical_area c).chunk ((physical_area c).first + 2 * k) 0 ≢ 1
-  pub rows : (space page : ℕ) (place : ℕ × ℕ) → place_of c space page ≡ Some place → IsZero d place.0 place.1
+  pub rows : (space page : ℕ) (place : ℕ × ℕ) → place_in_chunks c space page ≡ Some place → IsZero d place.0 place.1
 
 -- ---- what a stop within a formatting leaves
 
--- what a stop within any of these calls leaves, and one behind them, has P
-pub record Stops (old new : Past) (P : Bytes → Type 0) : Type 0 where
-  pub within : Leaves old new P
-  pub behind : (d : Bytes) → Rest new d → P d
-
--- what a stop before might have left, but for the two gates of the pair
-pub record FramedByGates (past : Past) (d : Bytes) : Type 0 where
-  pub origin : Bytes
-  pub rest : Rest past origin
-  pub same : (c p i : ℕ) → (c ≡ 0 → p < 2 → i ≡ 0 → ⊥) → d c p i ≡ origin c p i
-
--- what a stop before might have left, but for the pages that the configuration gives to chunks of spaces
-pub record FramedBySpaces (past : Past) (c : Config) (d : Bytes) : Type 0 where
-  pub origin : Bytes
-  pub rest : Rest past origin
-  pub same : (chunk page i : ℕ) → (chunk < chunk_count c.spaces → page < chunk_pages c chunk → ⊥) → d chunk page i ≡ origin chunk page i
+-- whether a byte is a gate of the pair
+abbrev pub is_gate : ℕ → ℕ → ℕ → Bool
+is_gate chunk page i = is_pair chunk page && (i == 0)
 
 -- nothing but the gates has changed yet, or there is no anchor
 abbrev pub IsClosing : Past → Bytes → Type 0
-IsClosing past d = FramedByGates past d ⊎ Newest d None
+IsClosing past d = FramedAt past is_gate d ⊎ Newest d None
 
 -- there is no anchor, or the disk is formatted
 abbrev pub IsBlankOrFormatted : Config → Bytes → Type 0
@@ -48,9 +36,12 @@ IsBlankOrFormatted c d = Newest d None ⊎ IsFormatted d c
 
 -- nothing but the gates has changed yet, or one of these
 abbrev pub IsBetween : Past → Config → Bytes → Type 0
-IsBetween past c d = FramedByGates past d ⊎ IsBlankOrFormatted c d
+IsBetween past c d = FramedAt past is_gate d ⊎ IsBlankOrFormatted c d
 
 -- ---- on the way
+
+abbrev pub zeros : Bytes
+zeros chunk page i = 0
 
 -- the first page of a chunk that is zeroed: not those of the anchor pair
 abbrev pub first_page : ℕ → ℕ
@@ -59,24 +50,18 @@ first_page (suc chunk) = 0
 
 -- whatever a stop leaves, these pages of a chunk are zero
 abbrev pub IsZeroed : Past → ℕ → ℕ → ℕ → Type 0
-IsZeroed past chunk from end = (d : Bytes) → Rest past d → (page : ℕ) → from ≤ page → page < end → IsZero d chunk page
-
--- what a stop before might have left, but for these pages of a chunk
-pub record FramedByPages (past : Past) (chunk from end : ℕ) (d : Bytes) : Type 0 where
-  pub origin : Bytes
-  pub rest : Rest past origin
-  pub same : (c p i : ℕ) → (c ≡ chunk → from ≤ p → p < end → ⊥) → d c p i ≡ origin c p i
+IsZeroed past chunk from end = (d : Bytes) → Rest past d → ReadsAs (λ c p i. in_pages chunk from end c p) zeros d
 
 -- whatever a stop leaves, no page of the pair is open
 abbrev pub IsBlank : Past → Type 0
 IsBlank past = (d : Bytes) → Rest past d → (page : ℕ) → page < 2 → IsShut d page
 
--- whatever a stop leaves, a chunk is as it reads
-abbrev pub IsSettled : Past → ℕ → Type 0
-IsSettled past chunk = (d : Bytes) → Rest past d → (page i : ℕ) → d chunk page i ≡ seen past chunk page i
+-- all of the chunks below this number
+abbrev pub in_first : ℕ → ℕ → ℕ → Bool
+in_first n chunk page = nat_lt chunk n
 
--- so many of the first chunks are zeroed
+-- so many of the first chunks are zeroed, and as they read whatever a stop leaves
 pub record AreZeroed (past : Past) (c : Config) (n : ℕ) : Type 0 where
   pub blank : IsBlank past
-  pub settled : 0 < n → IsSettled past 0
+  pub settled : IsSettledIn past (in_first n)
   pub chunks : (chunk : ℕ) → chunk < n → IsZeroed past chunk (first_page chunk) (chunk_pages c chunk)

@@ -7,7 +7,7 @@ ghost use Rattle.ol_reserve.specs.Anchor.{IsAnchor};
 ghost use Rattle.ol_format.specs.First.{AreLarge, IsFirstSmall, chunks_of, first_anchor};
 
 use ol_chunks::ChunkTable;
-use ol_outside::Disk;
+use ol_ports::Disk;
 use ol_reserve::{Anchor, ConfigText, SPACES, TEXT_LIMIT};
 
 /// The state of an installation on line, and of a space that is up.

@@ -1,17 +1,20 @@
 //! The clearing of a disk.
 
 ghost use Rattle.std.specs.Prelude.{◌≡◌, ◌<◌, ◌≤◌, ℕ, IsErrOf, None, OnOk};
-ghost use Rattle.ol_outside.specs.Causes.{HasChunkCause};
-ghost use Rattle.ol_outside.specs.Disk.{Bytes, Rest, seen};
+ghost use Rattle.ol_ports.specs.Causes.{HasChunkCause};
+ghost use Rattle.ol_ports.specs.Disk.{seen};
+ghost use Rattle.ol_ports.specs.Frames.{FramedAt, FramedIn, IsSettledIn, ReadsAs, in_chunk, in_pages};
+ghost use Rattle.ol_ports.specs.Stops.{Stops};
+ghost use Rattle.ol_chunks.specs.Places.{in_spaces};
 ghost use Rattle.ol_chunks.specs.Limits.{chunk_count};
 ghost use Rattle.ol_reserve.specs.Pair.{Newest};
 ghost use Rattle.ol_format.specs.Causes.{HasFormatCause};
 ghost use Rattle.ol_format.specs.First.{AreLarge, chunks_of};
-ghost use Rattle.ol_format.specs.Formatted.{AreZeroed, FramedByGates, FramedByPages, FramedBySpaces, IsBlank, IsSettled, IsZero, IsZeroed, Stops, first_page};
+ghost use Rattle.ol_format.specs.Formatted.{AreZeroed, IsBlank, IsZeroed, first_page, is_gate, zeros};
 
 use crate::FormatFault;
 use ol_chunks::ChunkTable;
-use ol_outside::{Disk, Failed, PAGE_LENGTH};
+use ol_ports::{Disk, Failed, PAGE_LENGTH};
 
 /// The gate byte of a page that does not count.
 const SHUT: u8 = 0;
@@ -20,7 +23,7 @@ const SHUT: u8 = 0;
 pub(crate) fn close_pair<D: Disk>(disk: &mut D) -> Result<(), Failed>
     requires { 2 ≤ D.sizes disk.old 0 }
     ensures ok { D.tells → OnOk result (IsBlank (D.past disk.new)) }
-    ensures stops { D.tells → Stops (D.past disk.old) (D.past disk.new) (FramedByGates (D.past disk.old)) }
+    ensures stops { D.tells → Stops (D.past disk.old) (D.past disk.new) (FramedAt (D.past disk.old) is_gate) }
     ensures sizes { D.sizes disk.new ≡ D.sizes disk.old }
     ensures cause { HasChunkCause 0 (D.fault_counts disk.old) (D.fault_counts disk.new) result }
 {
@@ -33,8 +36,8 @@ pub(crate) fn close_pair<D: Disk>(disk: &mut D) -> Result<(), Failed>
 /// Closes the gates of both pages, of page 0 first.
 fn shut_pair<D: Disk>(disk: &mut D) -> Result<(), Failed>
     requires { 2 ≤ D.sizes disk.old 0 }
-    ensures ok { D.tells → OnOk result ((page : ℕ) → page < 2 → seen (D.past disk.new) 0 page 0 ≡ 0) }
-    ensures stops { D.tells → Stops (D.past disk.old) (D.past disk.new) (FramedByGates (D.past disk.old)) }
+    ensures ok { D.tells → OnOk result (ReadsAs is_gate zeros (seen (D.past disk.new))) }
+    ensures stops { D.tells → Stops (D.past disk.old) (D.past disk.new) (FramedAt (D.past disk.old) is_gate) }
     ensures sizes { D.sizes disk.new ≡ D.sizes disk.old }
     ensures cause { HasChunkCause 0 (D.fault_counts disk.old) (D.fault_counts disk.new) result }
 {
@@ -49,7 +52,7 @@ pub(crate) fn zero_chunks<D: Disk>(disk: &mut D, table: &ChunkTable) -> Result<(
     requires { AreLarge (D.sizes disk.old) table.now (chunks_of table.now) }
     ensures ok { D.tells → IsBlank (D.past disk.old) → OnOk result (AreZeroed (D.past disk.new) table.now (chunk_count table.now.spaces)) }
     ensures stops { D.tells → IsBlank (D.past disk.old) → Stops (D.past disk.old) (D.past disk.new) (λ d. Newest d None) }
-    ensures frame { D.tells → Stops (D.past disk.old) (D.past disk.new) (FramedBySpaces (D.past disk.old) table.now) }
+    ensures frame { D.tells → Stops (D.past disk.old) (D.past disk.new) (FramedIn (D.past disk.old) (in_spaces table.now)) }
     ensures small { (chunk : ℕ) → IsErrOf result (FormatFault.TooSmall chunk) → ⊥ }
     ensures cause { HasFormatCause (D.fault_counts disk.old) (D.fault_counts disk.new) result }
     ensures sizes { D.sizes disk.new ≡ D.sizes disk.old }
@@ -76,8 +79,8 @@ fn zero_pages<D: Disk>(disk: &mut D, chunk: u8, from: u32, end: u32) -> Result<(
     requires there { end ≤ D.sizes disk.old chunk }
     requires some { 0 < D.sizes disk.old chunk }
     ensures ok { D.tells → OnOk result (IsZeroed (D.past disk.new) chunk from end) }
-    ensures settled { D.tells → OnOk result (IsSettled (D.past disk.new) chunk) }
-    ensures stops { D.tells → Stops (D.past disk.old) (D.past disk.new) (FramedByPages (D.past disk.old) chunk from end) }
+    ensures settled { D.tells → OnOk result (IsSettledIn (D.past disk.new) (in_chunk chunk)) }
+    ensures stops { D.tells → Stops (D.past disk.old) (D.past disk.new) (FramedIn (D.past disk.old) (in_pages chunk from end)) }
     ensures sizes { D.sizes disk.new ≡ D.sizes disk.old }
     ensures cause { HasChunkCause chunk (D.fault_counts disk.old) (D.fault_counts disk.new) result }
 {
@@ -90,8 +93,8 @@ fn zero_pages<D: Disk>(disk: &mut D, chunk: u8, from: u32, end: u32) -> Result<(
 /// Writes zeros over these pages of a chunk, up to `end`.
 fn write_zeros<D: Disk>(disk: &mut D, chunk: u8, from: u32, end: u32) -> Result<(), Failed>
     requires { end ≤ D.sizes disk.old chunk }
-    ensures ok { D.tells → OnOk result ((page : ℕ) → from ≤ page → page < end → IsZero (seen (D.past disk.new)) chunk page) }
-    ensures stops { D.tells → Stops (D.past disk.old) (D.past disk.new) (FramedByPages (D.past disk.old) chunk from end) }
+    ensures ok { D.tells → OnOk result (ReadsAs (λ c p i. in_pages chunk from end c p) zeros (seen (D.past disk.new))) }
+    ensures stops { D.tells → Stops (D.past disk.old) (D.past disk.new) (FramedIn (D.past disk.old) (in_pages chunk from end)) }
     ensures sizes { D.sizes disk.new ≡ D.sizes disk.old }
     ensures cause { HasChunkCause chunk (D.fault_counts disk.old) (D.fault_counts disk.new) result }
 {

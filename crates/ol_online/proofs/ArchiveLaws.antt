@@ -25,8 +25,8 @@ use Rattle.ol_core.specs.Tape.{end_block, head_at, page_blocks}
 use Rattle.ol_core.specs.Turns.{given_by, turn}
 use Rattle.ol_core.proofs.TapeLaws.{front, front_taken, length-page_blocks, page_blocks-push}
 use Rattle.ol_object.specs.Bytes.{bytes_of}
-use Rattle.ol_outside.specs.Causes.{Rose}
-use Rattle.ol_outside.specs.Drive.{Tape, all_synced, stream, stream_of}
+use Rattle.ol_ports.specs.Causes.{Rose}
+use Rattle.ol_ports.specs.Drive.{Tape, all_synced, blocks_in_order, stream_of}
 use Rattle.ol_volume.specs.declared.writer.TapeEnd.{TapeEnd}
 use Rattle.ol_volume.specs.declared.writer.TapeEnd.TheVariants.{OutOfTape, TapeFault}
 use Rattle.ol_volume.specs.Written.{EndsFinish, EndsPut, Puts, Written, and_block}
@@ -36,13 +36,13 @@ use Rattle.ol_online.specs.declared.archive.PlayEnd.{PlayEnd}
 use Rattle.ol_online.specs.declared.archive.PlayEnd.TheVariants.{NoMemory, Tape as TapeStop}
 use Rattle.ol_online.specs.Blocks.{page_saved}
 use Rattle.ol_online.proofs.PlayLaws.{IsTurn, run_stopped, turned_on, turned_well}
-use Rattle.ol_online.specs.Playing.{EndsTape, IsArchiveLine, Job, head_of, names_in, RefusesPut, Interrupts, IsBegun, IsCopied, IsCopying, IsOnTape, IsPaged, IsRunning, IsSynced, Wrote, WrotePart, and_blocks, archive_after, first_blocks, pages_in, pages_left, whole_archive}
+use Rattle.ol_online.specs.Playing.{EndsTape, IsArchiveLine, Job, head_of_job, names_in, RefusesPut, Interrupts, IsBegun, IsCopied, IsCopying, IsOnTape, IsPaged, IsRunning, IsSynced, Wrote, WrotePart, and_blocks, first_archive, first_blocks, archive_pages, pages_ahead, whole_archive}
 
 -- ---- a page passes
 
 -- the archive with so many pages passed
 abbrev pub passing : Job → ℕ → Archive
-passing job k = record (archive_after job) { passed = k }
+passing job k = record (first_archive job) { passed = k }
 
 abbrev pub machine_of : Fixed → Work → ℕ → List (Option Archive) → Machine
 machine_of fixed work next archives = record { fixed = fixed; work = work; next_archive = next; archives = archives }
@@ -59,18 +59,18 @@ machine_at job k m = machine_of (formatted job.config).fixed m.work m.next_archi
 pub record TookPage (job : Job) (k : ℕ) (t : Seen) (reply : Reply) (space page : ℕ) : Type 0 where
   pub reply_is : reply ≡ PageIs space page
   pub rest : List (ℕ × ℕ)
-  pub left : drop k (pages_in job) ≡ (space, page) ∷ rest
+  pub left : drop k (archive_pages job) ≡ (space, page) ∷ rest
   pub running : IsRunning t job (k + 1)
 
 pub record TookNone (job : Job) (k : ℕ) (t : Seen) (reply : Reply) : Type 0 where
   pub reply_is : reply ≡ AllTaken
-  pub left : drop k (pages_in job) ≡ []
+  pub left : drop k (archive_pages job) ≡ []
   pub running : IsRunning t job k
 
 abbrev pub Took : Job → ℕ → Seen → Reply → Type 0
 Took job k t reply = ((space : ℕ) × (page : ℕ) × TookPage job k t reply space page) ⊎ TookNone job k t reply
 
-took_from : (job : Job) (k : ℕ) (t : Seen) (reply : Reply) (m : Machine) (left : List (ℕ × ℕ)) → m.work.journal ≡ job.journal → k ≤ length (pages_in job) → drop k (pages_in job) ≡ left
+took_from : (job : Job) (k : ℕ) (t : Seen) (reply : Reply) (m : Machine) (left : List (ℕ × ℕ)) → m.work.journal ≡ job.journal → k ≤ length (archive_pages job) → drop k (archive_pages job) ≡ left
     → ◌≡◌ {A = Reply × Machine} (reply, t.machine) (take_page (machine_at job k m) 1 (passing job k) left) → Took job k t reply
 took_from job k t reply m [] jis le is step =
     let after : t.machine ≡ machine_at job k m = ap (λ (r : Reply × Machine). r.1) step in
@@ -97,7 +97,7 @@ took_from job k t reply m (p ∷ rest) jis le is step =
           archives = ap (λ (x : Machine). x.archives) after;
           journal_is = ap (λ (x : Machine). x.work.journal) after ∙ jis;
           fixed = ap (λ (x : Machine). x.fixed) after;
-          passed = omega (arith, ap length is, length-drop k (pages_in job));
+          passed = omega (arith, ap length is, length-drop k (archive_pages job));
         };
       },
     )
@@ -105,7 +105,7 @@ took_from job k t reply m (p ∷ rest) jis le is step =
 pub took : {s t : Seen} {job : Job} {k : ℕ} {by : By} {reply : Reply} → IsRunning s job k → Takes s by ArchiveTurn reply t → by.actor ≡ Archiver 1 → Took job k t reply
 took {s = s} {t = t} {job = job} {k = k} {by = by} {reply = reply} r takes who =
     let archives = Some (passing job k) ∷ replicate 3 None in
-    took_from job k t reply s.machine (drop k (pages_in job)) r.journal_is r.passed refl
+    took_from job k t reply s.machine (drop k (archive_pages job)) r.journal_is r.passed refl
     (takes.step ∙ ap (λ (a : Actor). turn (given_by reply) s.machine a ArchiveTurn) who ∙ ap (λ (x : Machine). take_turn x 1) (machine_is s.machine (formatted job.config).fixed archives r.fixed r.archives)
     ∙ ap (λ (j : List Record). take_page (machine_at job k s.machine) 1 (passing job k) (drop k (places job.config (take (length job.journal) j) job.spaces))) r.journal_is)
 
@@ -141,29 +141,29 @@ page_past past p = record { space = p.0; page = p.1; image = page_at past p.0 p.
 abbrev all_pages : Job → List SavedPage
 all_pages job = saveset job.config job.journal job.spaces (length job.journal)
 
-length-all_pages : (job : Job) → length (all_pages job) ≡ length (pages_in job)
-length-all_pages job = length-map (pages_in job) (page_past (take (length job.journal) job.journal))
+length-all_pages : (job : Job) → length (all_pages job) ≡ length (archive_pages job)
+length-all_pages job = length-map (archive_pages job) (page_past (take (length job.journal) job.journal))
 
-blocks_to : (job : Job) (k : ℕ) → k ≤ length (pages_in job) → first_blocks (suc k) (whole_archive job) ≡ map bytes_of (front (formatted job.config).fixed job.journal (archive_after job) k)
+blocks_to : (job : Job) (k : ℕ) → k ≤ length (archive_pages job) → first_blocks (suc k) (whole_archive job) ≡ map bytes_of (front (formatted job.config).fixed job.journal (first_archive job) k)
 blocks_to job k le =
     take-map bytes_of (suc k) (whole_archive job)
-    ∙ ap (map bytes_of) (front_taken (formatted job.config).fixed job.journal (archive_after job) k (omega (arith, length-all_pages job)))
+    ∙ ap (map bytes_of) (front_taken (formatted job.config).fixed job.journal (first_archive job) k (omega (arith, length-all_pages job)))
 
 -- the block of the page that passes next
 abbrev pub page_next : Job → ℕ → ℕ → ℕ → List ℕ
 page_next job k space page = bytes_of (archive_page 1 1 (k + 1) (page_past (take (length job.journal) job.journal) (space, page)))
 
-pub next_block : (job : Job) (k space page : ℕ) (rest : List (ℕ × ℕ)) → drop k (pages_in job) ≡ (space, page) ∷ rest
+pub next_block : (job : Job) (k space page : ℕ) (rest : List (ℕ × ℕ)) → drop k (archive_pages job) ≡ (space, page) ∷ rest
     → first_blocks (suc (k + 1)) (whole_archive job) ≡ first_blocks (suc k) (whole_archive job) ++ page_next job k space page ∷ []
 next_block job k space page rest is =
     let past = take (length job.journal) job.journal in
     let p : ℕ × ℕ = (space, page) in
-    let more : k + 1 ≤ length (pages_in job) = omega (arith, ap length is, length-drop k (pages_in job)) in
+    let more : k + 1 ≤ length (archive_pages job) = omega (arith, ap length is, length-drop k (archive_pages job)) in
     let taken : take (k + 1) (all_pages job) ≡ take k (all_pages job) ++ page_past past p ∷ [] =
-    take-map (page_past past) (k + 1) (pages_in job) ∙ ap (map (page_past past)) (take_next k (pages_in job) p rest is) ∙ map-append (page_past past) (take k (pages_in job)) (p ∷ [])
-    ∙ ap (λ (l : List SavedPage). l ++ page_past past p ∷ []) (sym (take-map (page_past past) k (pages_in job))) in
+    take-map (page_past past) (k + 1) (archive_pages job) ∙ ap (map (page_past past)) (take_next k (archive_pages job) p rest is) ∙ map-append (page_past past) (take k (archive_pages job)) (p ∷ [])
+    ∙ ap (λ (l : List SavedPage). l ++ page_past past p ∷ []) (sym (take-map (page_past past) k (archive_pages job))) in
     let count : 1 + length (take k (all_pages job)) ≡ k + 1 = omega (arith, length-take k (all_pages job), length-all_pages job) in
-    let header = end_block (formatted job.config).fixed header_kind 0 (archive_after job) in
+    let header = end_block (formatted job.config).fixed header_kind 0 (first_archive job) in
     let grown : page_blocks 1 1 1 (take (k + 1) (all_pages job)) ≡ page_blocks 1 1 1 (take k (all_pages job)) ++ archive_page 1 1 (k + 1) (page_past past p) ∷ [] =
     ap (page_blocks 1 1 1) taken ∙ page_blocks-push 1 1 1 (take k (all_pages job)) (page_past past p)
     ∙ ap (λ (n : ℕ). page_blocks 1 1 1 (take k (all_pages job)) ++ archive_page 1 1 n (page_past past p) ∷ []) count in
@@ -173,28 +173,28 @@ next_block job k space page rest is =
 
 -- the header is the first block
 abbrev pub end_bytes : ℕ → ℕ → Job → List ℕ
-end_bytes kind index job = bytes_of (end_block (formatted job.config).fixed kind index (archive_after job))
+end_bytes kind index job = bytes_of (end_block (formatted job.config).fixed kind index (first_archive job))
 
 pub first_block : (job : Job) → first_blocks 1 (whole_archive job) ≡ end_bytes header_kind 0 job ∷ []
 first_block job = blocks_to job 0 (omega arith)
 
 -- the trailer is the last
-pub last_block : (job : Job) (k : ℕ) → drop k (pages_in job) ≡ [] → k ≤ length (pages_in job)
+pub last_block : (job : Job) (k : ℕ) → drop k (archive_pages job) ≡ [] → k ≤ length (archive_pages job)
     → map bytes_of (whole_archive job) ≡ first_blocks (suc k) (whole_archive job) ++ end_bytes trailer_kind (k + 1) job ∷ []
 last_block job k is le =
-    let all : k ≡ length (all_pages job) = take_whole k (pages_in job) is le ∙ sym (length-all_pages job) in
-    let header = end_block (formatted job.config).fixed header_kind 0 (archive_after job) in
+    let all : k ≡ length (all_pages job) = take_whole k (archive_pages job) is le ∙ sym (length-all_pages job) in
+    let header = end_block (formatted job.config).fixed header_kind 0 (first_archive job) in
     let every : take k (all_pages job) ≡ all_pages job = take_all k (all_pages job) (omega (arith, all)) in
-    map-append bytes_of (header ∷ page_blocks 1 1 1 (all_pages job)) (end_block (formatted job.config).fixed trailer_kind (length (all_pages job) + 1) (archive_after job) ∷ [])
+    map-append bytes_of (header ∷ page_blocks 1 1 1 (all_pages job)) (end_block (formatted job.config).fixed trailer_kind (length (all_pages job) + 1) (first_archive job) ∷ [])
     ∙ ap (λ (n : ℕ). map bytes_of (header ∷ page_blocks 1 1 1 (all_pages job)) ++ end_bytes trailer_kind (n + 1) job ∷ []) (sym all)
     ∙ ap (λ (l : List SavedPage). map bytes_of (header ∷ page_blocks 1 1 1 l) ++ end_bytes trailer_kind (k + 1) job ∷ []) (sym every)
     ∙ ap (λ (l : List (List ℕ)). l ++ end_bytes trailer_kind (k + 1) job ∷ []) (sym (blocks_to job k le))
 
-length-whole : (job : Job) → length (whole_archive job) ≡ length (pages_in job) + 2
+length-whole : (job : Job) → length (whole_archive job) ≡ length (archive_pages job) + 2
 length-whole job =
     let pages = all_pages job in
-    let trailer = end_block (formatted job.config).fixed trailer_kind (length pages + 1) (archive_after job) in
-    omega (arith, length-append (end_block (formatted job.config).fixed header_kind 0 (archive_after job) ∷ page_blocks 1 1 1 pages) (trailer ∷ []), length-page_blocks 1 1 1 pages, length-all_pages job)
+    let trailer = end_block (formatted job.config).fixed trailer_kind (length pages + 1) (first_archive job) in
+    omega (arith, length-append (end_block (formatted job.config).fixed header_kind 0 (first_archive job) ∷ page_blocks 1 1 1 pages) (trailer ∷ []), length-page_blocks 1 1 1 pages, length-all_pages job)
 
 -- ---- what a put adds
 
@@ -346,11 +346,11 @@ header_refused lines line job w v s end b puts =
     ((Taking, b.turned), (0, b.running), ended.part, ended.cause)
 
 -- all blocks are the first so many
-all_blocks : (job : Job) (k : ℕ) → k ≡ length (pages_in job) → first_blocks (suc k + 1) (whole_archive job) ≡ map bytes_of (whole_archive job)
+all_blocks : (job : Job) (k : ℕ) → k ≡ length (archive_pages job) → first_blocks (suc k + 1) (whole_archive job) ≡ map bytes_of (whole_archive job)
 all_blocks job k all = take_all (suc k + 1) (map bytes_of (whole_archive job)) (omega (arith, all, length-map (whole_archive job) bytes_of, length-whole job))
 
-trailer_next : (job : Job) (k : ℕ) → drop k (pages_in job) ≡ [] → k ≤ length (pages_in job) → first_blocks (suc k + 1) (whole_archive job) ≡ first_blocks (suc k) (whole_archive job) ++ end_bytes trailer_kind (k + 1) job ∷ []
-trailer_next job k none le = all_blocks job k (take_whole k (pages_in job) none le) ∙ last_block job k none le
+trailer_next : (job : Job) (k : ℕ) → drop k (archive_pages job) ≡ [] → k ≤ length (archive_pages job) → first_blocks (suc k + 1) (whole_archive job) ≡ first_blocks (suc k) (whole_archive job) ++ end_bytes trailer_kind (k + 1) job ∷ []
+trailer_next job k none le = all_blocks job k (take_whole k (archive_pages job) none le) ∙ last_block job k none le
 
 pub trailer_put : (lines : List Line) (line : Line) (job : Job) (w v u : Written) (s : Seen) (k : ℕ) → IsCopied lines line job w s v k → Puts v (end_bytes trailer_kind (k + 1) job) u → Wrote w (map bytes_of (whole_archive job)) u
 trailer_put lines line job w v u s k c puts =
@@ -365,7 +365,7 @@ trailer_refused lines line job w v u s k end c puts =
 synced_stream : (t : Tape) → IsSynced (all_synced t)
 synced_stream t = cases t.volumes
   where
-    cases : (v : Option (List (List (List ℕ)))) → unwrap_or (option_map (λ x. length (stream x)) v) t.synced ≡ unwrap_or (option_map length (option_map stream v)) (unwrap_or (option_map (λ x. length (stream x)) v) t.synced)
+    cases : (v : Option (List (List (List ℕ)))) → unwrap_or (option_map (λ x. length (blocks_in_order x)) v) t.synced ≡ unwrap_or (option_map length (option_map blocks_in_order v)) (unwrap_or (option_map (λ x. length (blocks_in_order x)) v) t.synced)
     cases None = refl
     cases (Some x) = refl
 
@@ -400,14 +400,14 @@ pub every_block : (job : Job) → first_blocks (length (whole_archive job)) (who
 every_block job = take_all (length (whole_archive job)) (map bytes_of (whole_archive job)) (omega (arith, length-map (whole_archive job) bytes_of))
 
 -- the head of a running archive is that of its job
-pub head_is : (job : Job) (k : ℕ) (t : Seen) (a : Running) → IsRunning t job k → option_map archive_in (Some a) ≡ archive_of t.machine 1 → head_at (formatted job.config).fixed (archive_in a) ≡ head_of job
+pub head_is : (job : Job) (k : ℕ) (t : Seen) (a : Running) → IsRunning t job k → option_map archive_in (Some a) ≡ archive_of t.machine 1 → head_at (formatted job.config).fixed (archive_in a) ≡ head_of_job job
 head_is job k t a r running =
     let held : ◌≡◌ {A = Option Archive} (Some (archive_in a)) (Some (passing job k)) = running ∙ ap (λ (l : List (Option Archive)). slice_index_or l 0 None) r.archives in
     let same : archive_in a ≡ passing job k = cc in
     ap (λ (x : Archive). head_at (formatted job.config).fixed x) same
 
 -- a page that passes is one fewer that is left
-pub fewer_left : {s t : Seen} {by : By} (space page : ℕ) → Takes s by ArchiveTurn (PageIs space page) t → by.actor ≡ Archiver 1 → pages_left t < pages_left s
+pub fewer_left : {s t : Seen} {by : By} (space page : ℕ) → Takes s by ArchiveTurn (PageIs space page) t → by.actor ≡ Archiver 1 → pages_ahead t < pages_ahead s
 fewer_left {s = s} {t = t} {by = by} space page takes who =
     by_archives s.machine s.machine.archives refl (takes.step ∙ ap (λ (a : Actor). turn (given_by (PageIs space page)) s.machine a ArchiveTurn) who)
   where

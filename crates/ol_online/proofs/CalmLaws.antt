@@ -1,14 +1,14 @@
 -- How a command ends of which no count of faults rose: well, or for want of memory.
 use Rattle.std.specs.Prelude.{Err, List, Ok, Option, Result, Some, [], length, refl, take, ℕ, ◌∷◌, ◌≡◌, ◌≤◌}
 use Rattle.std.proofs.Common.{arith, inl, inr, subst, sym, ◌∙◌}
-use Rattle.ol_chunks.specs.Reading.{config_of}
+use Rattle.ol_chunks.specs.Reading.{config_in_text}
 use Rattle.ol_format.specs.First.{AreLarge, IsFirstSmall, chunks_of}
 use Rattle.ol_values.specs.Config.{Config}
 use Rattle.ol_values.specs.declared.history.Entry.{Entry}
 use Rattle.ol_values.specs.declared.line.Line.{Line}
-use Rattle.ol_outside.specs.Causes.{IsCalm, Rose}
-use Rattle.ol_outside.specs.Disk.{Past}
-use Rattle.ol_outside.specs.Drive.{capacity}
+use Rattle.ol_ports.specs.Causes.{IsCalm, Rose}
+use Rattle.ol_ports.specs.Disk.{Past}
+use Rattle.ol_ports.specs.Drive.{capacity}
 use Rattle.ol_reserve.specs.declared.anchor.Anchor.{Anchor}
 use Rattle.ol_script.specs.Script.{script_of}
 use Rattle.ol_volume.specs.Written.{Written}
@@ -19,7 +19,7 @@ use Rattle.ol_online.specs.declared.told.Told.{Told}
 use Rattle.ol_online.specs.declared.words.Verb.{Verb}
 use Rattle.ol_online.specs.declared.words.Verb.TheVariants.{Init, Play}
 use Rattle.ol_online.specs.Calm.{FormatsCalmly, HasTape, IsSoundPlay, IsWell, PlaysCalmly}
-use Rattle.ol_online.specs.Command.{EndsPlay, EndsScript, EndsUnplayed, EndsWork, IsInit, IsPlayed, IsPrepared, IsReported, PlayedTo, archive_line_in, history_in, status_of_init}
+use Rattle.ol_online.specs.Command.{EndsPlayed, EndsScript, EndsUnplayed, EndsWork, IsInit, IsPlayed, IsPrepared, IsReported, PlayedTo, archive_line_in, history_in, status_of_init}
 use Rattle.ol_online.specs.Initing.{EndsInit, config_limit}
 use Rattle.ol_online.specs.Opening.{HasStatusCause, IsOpened, OpensTable}
 use Rattle.ol_online.specs.Playing.{due, journal_after}
@@ -34,7 +34,7 @@ no_small sizes c chunk large first = let enough = large chunk first.there in ome
 
 -- the status is no fault of the disk where none of its counts rose
 no_disk_fault : (before now : ℕ → ℕ) (status : Status) → HasStatusCause before now status → ((chunk : ℕ) → IsCalm (before chunk) (now chunk)) → (chunk : ℕ) → status ≡ DiskFault chunk → ⊥
-no_disk_fault before now status cause calm chunk is = no_fault (before chunk) (now chunk) (cause.fault chunk is) (calm chunk)
+no_disk_fault before now status cause calm chunk is = no_fault (before chunk) (now chunk) (cause.fault chunk is).rose (calm chunk)
 
 -- the status of the work is reported where no write failed
 told_as_ended : (before after : ℕ) (ended status : Status) → IsCalm before after → IsReported before after ended status → status ≡ ended
@@ -66,7 +66,7 @@ calm_opening sizes a c (NotReady Restoring) good no_disk o = absurd (omega (arit
 calm_opening sizes a c (NotReady Blank) good no_disk o = absurd o
 calm_opening sizes a c (DiskFault chunk) good no_disk o = absurd (no_disk chunk refl)
 calm_opening sizes a c (BadDisk chunk page) good no_disk o = absurd o
-calm_opening sizes a c NoMemory good no_disk o = refl
+calm_opening sizes a c NoMemory good no_disk o = absurd o
 calm_opening sizes a c Done good no_disk o = absurd o
 calm_opening sizes a c BadWords good no_disk o = absurd o
 calm_opening sizes a c (BadScript line) good no_disk o = absurd o
@@ -81,7 +81,7 @@ prepared_is : (source : SourceView) (tells : Type 0) (disk : DiskView) (lines : 
     → IsSoundPlay source tells disk lines c n → IsPrepared source.left tells (bytes_on disk) disk.sizes given found plan → (given ≡ lines) × (found ≡ c) × (plan ≡ Ok n)
 prepared_is source tells disk lines c n given found plan p q =
     let read : given ≡ lines = (let first = q.says p.bytes p.left in let second = p.script in cc) in
-    let opened : found ≡ c = (let first = q.opens.only p.told p.anchor p.newest in let one = first.1 in let two = p.opens.1 in cc) in
+    let opened : found ≡ c = (let first = q.opens.only p.told p.low p.anchor p.newest in let one = first.1 in let two = p.opens.1 in cc) in
     (read, opened, (let first = q.plans in let second = p.plans in cc))
 
 calm_unplayed : (reads : Change SourceView) (tells : Type 0) (disk : DiskView) (lines : List Line) (c : Config) (n : ℕ) (status : Status)
@@ -90,7 +90,7 @@ calm_unplayed : (reads : Change SourceView) (tells : Type 0) (disk : DiskView) (
 calm_unplayed reads tells disk lines c n status p calm no_disk (inl e) =
     calm_script reads.old.left p.bytes lines reads.old.faults reads.new.faults status p.left p.script calm e
 calm_unplayed reads tells disk lines c n status p calm no_disk (inr (inl (given, says, opens))) =
-    calm_opening disk.sizes p.anchor c status p.opens no_disk (opens.only p.told p.anchor p.newest)
+    calm_opening disk.sizes p.anchor c status p.opens no_disk (opens.only p.told p.low p.anchor p.newest)
 calm_unplayed reads tells disk lines c n status p calm no_disk (inr (inr (given, found, bad, prepared, is))) =
     let same = (prepared_is reads.old tells disk lines c n given found (Err bad) p prepared).2 in cc
 
@@ -111,32 +111,32 @@ calm_play c lines archive w v h ReadFault calm enough p = absurd p
 calm_play c lines archive w v h (DiskFault chunk) calm enough p = absurd p
 
 -- the same of the lines, configuration and history that a play tells
-calm_played : (c : Config) (lines : List Line) (n : ℕ) (w : Written) (told : Told) (v : Written) (status : Status) → IsCalm w.faults v.faults
-    → length (due c (archive_line_in n lines) (journal_after c (history_in told))) ≤ capacity w.tape → IsPlayed c lines n w told v status → IsWell status
-calm_played c lines n w told v status calm enough p =
+calm_played : (c : Config) (lines : List Line) (n : ℕ) (tape : Change Written) (told : Told) (status : Status) → IsCalm tape.old.faults tape.new.faults
+    → length (due c (archive_line_in n lines) (journal_after c (history_in told))) ≤ capacity tape.old.tape → IsPlayed c lines n tape told status → IsWell status
+calm_played c lines n tape told status calm enough p =
     let told_history : history_in told ≡ p.history = subst (λ (t : Told). history_in t ≡ p.history) (sym p.told_is) refl in
-    calm_play c lines (archive_line_in n lines) w v p.history status calm (subst (λ (h : List Entry). length (due c (archive_line_in n lines) (journal_after c h)) ≤ capacity w.tape) told_history enough) p.played
+    calm_play c lines (archive_line_in n lines) tape.old tape.new p.history status calm (subst (λ (h : List Entry). length (due c (archive_line_in n lines) (journal_after c h)) ≤ capacity tape.old.tape) told_history enough) p.played
 
 calm_work : (tells : Type 0) (reads : Change SourceView) (disk : DiskView) (tape : Change Written) (lines : List Line) (c : Config) (n : ℕ) (told : Told) (status : Status)
     → IsSoundPlay reads.old tells disk lines c n → IsCalm reads.old.faults reads.new.faults → ((chunk : ℕ) → status ≡ DiskFault chunk → ⊥)
-    → HasTape tape lines c n (history_in told) → EndsPlay tells reads disk tape told status → IsWell status
+    → HasTape tape lines c n (history_in told) → EndsPlayed tells reads disk tape told status → IsWell status
 calm_work tells reads disk tape lines c n told status p calm no_disk enough (inl (unplayed, e)) =
     inr (calm_unplayed reads tells disk lines c n status p calm no_disk e)
 calm_work tells reads disk tape lines c n told status p calm no_disk enough (inr (given, found, count, prepared, played)) =
     let same = prepared_is reads.old tells disk lines c n given found (Ok count) p prepared in
     let counted : count ≡ n = (let plan = same.2 in cc) in
-    let there : IsPlayed c lines n tape.old told tape.new status =
-    subst (λ (x : Config). IsPlayed x lines n tape.old told tape.new status) same.1
-    (subst (λ (l : List Line). IsPlayed found l n tape.old told tape.new status) same.0
-    (subst (λ (k : ℕ). IsPlayed found given k tape.old told tape.new status) counted played)) in
-    calm_played c lines n tape.old told tape.new status enough.calm enough.room there
+    let there : IsPlayed c lines n tape told status =
+    subst (λ (x : Config). IsPlayed x lines n tape told status) same.1
+    (subst (λ (l : List Line). IsPlayed found l n tape told status) same.0
+    (subst (λ (k : ℕ). IsPlayed found given k tape told status) counted played)) in
+    calm_played c lines n tape told status enough.calm enough.room there
 
 -- where no count rose, a play over a sound disk, with tape enough, was played to its end, or memory was wanted
 pub calm_command : (verb : Option Verb) (tells : Type 0) (reads : Change SourceView) (disk : Change DiskView) (tape : Change Written) (writes : Change SinkView) (told : Told) (h : List Entry) (ended status : Status)
     → EndsWork verb tells reads disk tape told ended → HasStatusCause disk.old.faults disk.new.faults ended → IsReported writes.old.faults writes.new.faults ended status → h ≡ history_in told
     → verb ≡ Some Play → PlaysCalmly tells reads disk tape writes h status
 calm_command verb tells reads disk tape writes told h ended status ends cause reported history play lines c n sound calm enough =
-    let work : EndsPlay tells reads disk.old tape told ended = subst (λ (x : Option Verb). EndsWork x tells reads disk tape told ended) play ends in
+    let work : EndsPlayed tells reads disk.old tape told ended = subst (λ (x : Option Verb). EndsWork x tells reads disk tape told ended) play ends in
     let tape_enough = subst (λ (x : List Entry). HasTape tape lines c n x) history enough in
     let no_disk = no_disk_fault disk.old.faults disk.new.faults ended cause calm.chunks in
     subst IsWell (sym (told_as_ended writes.old.faults writes.new.faults ended status calm.sink reported))
@@ -145,7 +145,7 @@ calm_command verb tells reads disk tape writes told h ended status ends cause re
 -- ---- a formatting
 
 calm_format : (left : Option (List ℕ)) (bytes : List ℕ) (c : Config) (before after : ℕ) (tells : Type 0) (sizes : ℕ → ℕ) (past : Past) (result : Result Unit Status)
-    → left ≡ Some bytes → config_of (take config_limit bytes) ≡ Ok c → AreLarge sizes c (chunks_of c) → IsCalm before after → ((chunk : ℕ) → status_of_init result ≡ DiskFault chunk → ⊥)
+    → left ≡ Some bytes → config_in_text (take config_limit bytes) ≡ Ok c → AreLarge sizes c (chunks_of c) → IsCalm before after → ((chunk : ℕ) → status_of_init result ≡ DiskFault chunk → ⊥)
     → EndsInit left before after tells sizes past result → IsWell (status_of_init result)
 calm_format left bytes c before after tells sizes past (Ok u) is reads large calm no_disk e = inl refl
 calm_format left bytes c before after tells sizes past (Err NoMemory) is reads large calm no_disk e = inr refl

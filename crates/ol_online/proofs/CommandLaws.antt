@@ -6,9 +6,11 @@ use Rattle.std.proofs.Math.Seq.{take-append-add, take-append_seam}
 use Rattle.std.specs.Io.KnownBytes.{Appends}
 use Rattle.ol_chunks.proofs.AgainLaws.{read_again}
 use Rattle.ol_chunks.specs.Limits.{IsConfig}
-use Rattle.ol_chunks.specs.Reading.{config_of}
+use Rattle.ol_chunks.specs.Reading.{config_in_text}
+use Rattle.ol_chunks.specs.declared.parse.ConfigFault.{ConfigFault}
+use Rattle.ol_chunks.specs.declared.parse.ConfigFault.TheVariants.{BadConfig}
 use Rattle.ol_values.specs.Config.{Config, config_text}
-use Rattle.ol_outside.proofs.Moves.{appends_both}
+use Rattle.ol_ports.proofs.Moves.{appends_both}
 use Rattle.ol_volume.specs.Written.{Written}
 use Rattle.ol_online.specs.declared.told.Told.TheVariants.{Nothing}
 use Rattle.ol_online.specs.declared.status.Status.{Status}
@@ -16,7 +18,7 @@ use Rattle.ol_online.specs.declared.words.Verb.{Verb}
 use Rattle.ol_online.specs.declared.words.Verb.TheVariants.{Play}
 use Rattle.ol_values.specs.declared.history.Entry.{Entry}
 use Rattle.ol_values.specs.declared.line.Line.{Line}
-use Rattle.ol_outside.specs.Drive.{Tape}
+use Rattle.ol_ports.specs.Drive.{Tape}
 use Rattle.ol_volume.specs.declared.writer.TapeEnd.TheVariants.{OutOfTape as OutEnd, TapeFault as FaultEnd}
 use Rattle.ol_online.specs.declared.archive.PlayEnd.{PlayEnd}
 use Rattle.ol_online.specs.declared.archive.PlayEnd.TheVariants.{NoMemory as Starved, Tape as TapeStop}
@@ -46,10 +48,14 @@ whole_part old new whole a = (length whole, subst (λ (l : List ℕ). Appends ol
 -- ---- the work
 
 -- the text of a table, of which the first bytes are read again
-pub text_again : (c : Config) (n : ℕ) (buf rest : List ℕ) → IsConfig c → n ≡ length (config_text c) → buf ≡ config_text c ++ rest → config_of (take n buf) ≡ Ok c
+pub text_again : (c : Config) (n : ℕ) (buf rest : List ℕ) → IsConfig c → n ≡ length (config_text c) → buf ≡ config_text c ++ rest → config_in_text (take n buf) ≡ Ok c
 text_again c n buf rest config count is =
     let front : take n buf ≡ config_text c = subst (λ (k : ℕ). take k buf ≡ config_text c) (sym count) (ap (λ (l : List ℕ). take (length (config_text c)) l) is ∙ take-append_seam (config_text c) rest) in
-    ap (λ (l : List ℕ). config_of l) front ∙ read_again c config
+    ap (λ (l : List ℕ). config_in_text l) front ∙ read_again c config
+
+-- a text that is a configuration is not refused
+pub not_bad : (c : Config) (l : List ℕ) (fault : ConfigFault) → config_in_text l ≡ Ok c → ((n : ℕ) → (let r : Result Config ConfigFault = Err fault in r) ≡ Err (BadConfig n) → config_in_text l ≡ Err n) → ⊥
+not_bad c l (BadConfig n) read bad = let told = bad n refl in cc
 
 -- a play of which nothing was played
 pub ends_unplayed : (verb : Option Verb) (tells : Type 0) (reads : Change SourceView) (disk : Change DiskView) (tape : Change Written) (status : Status)

@@ -28,7 +28,7 @@ use Rattle.ol_core.specs.Core.{Seen, ShowsCount, Takes}
 use Rattle.ol_online.specs.Playing.{EndsPlay, IsArchiveLine, IsNamed, Job, job_of, names_in, EndsTape, EndsWell, GaveUp, Interrupts, IsBegun, IsOnTape, IsReached, IsRunning, IsTurned, IsWaiting, and_blocks, at_stage, IsReason, drive_in, faults_in, reply_of, whole_archive}
 use Rattle.ol_online.specs.declared.archive.PlayEnd.TheVariants.{NoMemory, Tape as TapeStop}
 use Rattle.ol_values.specs.Blocks.{Block}
-use Rattle.ol_outside.specs.Drive.{stream_of}
+use Rattle.ol_ports.specs.Drive.{stream_of}
 use Rattle.ol_volume.specs.Written.{Written}
 use Rattle.ol_online.proofs.ArchiveLaws.{every_block, machine_is, machine_of, passing, same_stream}
 use Rattle.ol_online.proofs.PlayLaws.{IsTurn, entries_well, entry_after, reached_on, run_stopped, turned_well, turn_led, turned_on}

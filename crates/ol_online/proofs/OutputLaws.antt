@@ -7,7 +7,7 @@ use Rattle.ol_values.specs.Config.{Config}
 use Rattle.ol_values.specs.declared.history.Entry.{Entry}
 use Rattle.ol_values.specs.Text.{IsInLineOrder, entry_text, is_followed, text}
 use Rattle.ol_core.proofs.TextLaws.{is_followed-next}
-use Rattle.ol_outside.proofs.Moves.{appends_both}
+use Rattle.ol_ports.proofs.Moves.{appends_both}
 
 -- of this whole all but `left` was written
 pub record IsWritten (old new : Option (List ℕ)) (left whole : List ℕ) : Type 0 where

@@ -16,8 +16,8 @@ use Rattle.ol_values.specs.declared.line.Form.TheVariants.{Archive, Begin, Commi
 use Rattle.ol_values.specs.declared.line.Line.{Line}
 use Rattle.ol_script.specs.Spelling.{IsLine, IsLineForm}
 use Rattle.ol_online.specs.Command.{archive_line_in, first_of}
-use Rattle.ol_online.specs.Planning.{is_archive_form, is_archive_line, is_archiver_1, is_session_1, is_session_form, is_session_line, is_space, is_there, planned, planned_behind, session_count}
-use Rattle.ol_online.specs.Playing.{IsArchiveLine, IsNamed, IsSessionForm, IsSessionLine, line_in, names_in}
+use Rattle.ol_online.specs.Planning.{is_archive_form, is_archive_line, is_archiver_1, is_session_1, is_session_form, is_session_line, is_space, is_there, lines_planned, planned_behind, session_count}
+use Rattle.ol_online.specs.Playing.{IsArchiveLine, IsNamed, IsPlayedForm, IsSessionLine, line_in, names_in}
 
 -- ---- a line
 
@@ -45,7 +45,7 @@ archiver_actor Flusher e = cc
 archiver_actor Checkpointer e = cc
 archiver_actor Warmer e = cc
 
-session_form : (form : Form) → is_session_form form ≡ true → IsLineForm (Session 1) form → IsSessionForm form
+session_form : (form : Form) → is_session_form form ≡ true → IsLineForm (Session 1) form → IsPlayedForm form
 session_form Begin e l = tt
 session_form Commit e l = tt
 session_form (Insert reg space row) e l = omega (arith, l.1.0)
@@ -101,7 +101,7 @@ behind_is c n k [] e = (cc, tt)
 behind_is c n k (line ∷ []) e = behind_by c n k line (is_archive_line c line) refl e
 behind_is c n k (line ∷ next ∷ lines) e = absurd (no_more n next.number line.number (is_archive_line c line) e)
 
-count_is : (c : Config) (lines : List Line) (n : ℕ) → planned c lines ≡ Ok n → (n ≡ session_count lines) × IsBehind c (drop n lines)
+count_is : (c : Config) (lines : List Line) (n : ℕ) → lines_planned c lines ≡ Ok n → (n ≡ session_count lines) × IsBehind c (drop n lines)
 count_is c lines n e =
     let parts = behind_is c n (session_count lines) (drop (session_count lines) lines) e in
     (parts.0, subst (λ (k : ℕ). IsBehind c (drop k lines)) (sym parts.0) parts.1)
@@ -125,7 +125,7 @@ in_front : (k at n : ℕ) (b : Bool) → nat_lt at n ≡ b → k < unwrap_or (le
 in_front k at n true is l = (l, grind (arith, is, l))
 in_front k at n false is l = (grind (arith, is, l), l)
 
-pub sessions_are : (c : Config) (lines : List Line) (n : ℕ) → planned c lines ≡ Ok n → All IsLine lines
+pub sessions_are : (c : Config) (lines : List Line) (n : ℕ) → lines_planned c lines ≡ Ok n → All IsLine lines
     → (k : ℕ) (d : Line) → k < n → IsSessionLine (get_or lines k d)
 sessions_are c lines n e forms k d l =
     let count : k < session_count lines = subst (λ (m : ℕ). k < m) (count_is c lines n e).0 l in
@@ -137,7 +137,7 @@ behind_archive c [] is = (tt, tt)
 behind_archive c (line ∷ []) is = archive_line c line is
 behind_archive c (line ∷ next ∷ lines) is = absurd is
 
-pub archive_is : (c : Config) (lines : List Line) (n : ℕ) → planned c lines ≡ Ok n → IfSome (archive_line_in n lines) IsArchiveLine × IfSome (archive_line_in n lines) (IsNamed c)
+pub archive_is : (c : Config) (lines : List Line) (n : ℕ) → lines_planned c lines ≡ Ok n → IfSome (archive_line_in n lines) IsArchiveLine × IfSome (archive_line_in n lines) (IsNamed c)
 archive_is c lines n e = behind_archive c (drop n lines) (count_is c lines n e).1
 
 behind_whole : (c : Config) (behind : List Line) → IsBehind c behind → option_to_list (first_of behind) ≡ behind
@@ -146,7 +146,7 @@ behind_whole c (line ∷ []) is = refl
 behind_whole c (line ∷ next ∷ lines) is = absurd is
 
 -- the lines of the session and the archive line are all lines
-pub all_planned : (c : Config) (lines : List Line) (n : ℕ) → planned c lines ≡ Ok n → take n lines ++ option_to_list (archive_line_in n lines) ≡ lines
+pub all_planned : (c : Config) (lines : List Line) (n : ℕ) → lines_planned c lines ≡ Ok n → take n lines ++ option_to_list (archive_line_in n lines) ≡ lines
 all_planned c lines n e = ap (λ (l : List Line). take n lines ++ l) (behind_whole c (drop n lines) (count_is c lines n e).1) ∙ take-append-drop n lines
 
 pub first_told : (o : Option (Bor Line)) (behind : List Line) → option_copied o ≡ slice_get behind 0 → line_in o ≡ first_of behind

@@ -10,7 +10,7 @@ use Rattle.ol_core.specs.Lines.{First}
 use Rattle.ol_core.specs.Machine.{formatted, journal_in}
 use Rattle.ol_values.specs.Text.{IsInLineOrder}
 use Rattle.ol_object.specs.Bytes.{bytes_of}
-use Rattle.ol_outside.specs.Drive.{stream_of}
+use Rattle.ol_ports.specs.Drive.{stream_of}
 use Rattle.ol_volume.specs.Written.{Written}
 use Rattle.ol_core.specs.Core.{Seen}
 use Rattle.ol_online.specs.declared.archive.PlayEnd.{PlayEnd}

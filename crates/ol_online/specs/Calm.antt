@@ -1,10 +1,10 @@
 -- What a command needs, besides memory, to end well.
 use Rattle.std.specs.Prelude.{List, Ok, Some, length, take, ℕ, ◌≡◌, ◌≤◌, ◌⊎◌}
-use Rattle.ol_chunks.specs.Reading.{config_of}
+use Rattle.ol_chunks.specs.Reading.{config_in_text}
 use Rattle.ol_format.specs.First.{AreLarge, chunks_of}
-use Rattle.ol_outside.specs.Causes.{IsCalm}
-use Rattle.ol_outside.specs.Drive.{capacity}
-use Rattle.ol_reserve.specs.Pair.{Newest}
+use Rattle.ol_ports.specs.Causes.{IsCalm}
+use Rattle.ol_ports.specs.Drive.{capacity}
+use Rattle.ol_reserve.specs.Pair.{AreLow, Newest}
 use Rattle.ol_reserve.specs.declared.anchor.Anchor.{Anchor}
 use Rattle.ol_script.specs.Script.{script_of}
 use Rattle.ol_values.specs.Config.{Config}
@@ -14,7 +14,7 @@ use Rattle.ol_volume.specs.Written.{Written}
 use Rattle.ol_online.specs.Command.{archive_line_in}
 use Rattle.ol_online.specs.Initing.{config_limit}
 use Rattle.ol_online.specs.Opening.{OpensTable}
-use Rattle.ol_online.specs.Planning.{planned}
+use Rattle.ol_online.specs.Planning.{lines_planned}
 use Rattle.ol_online.specs.Playing.{due, journal_after}
 use Rattle.ol_online.specs.Views.{Change, DiskView, SinkView, SourceView, bytes_on}
 use Rattle.ol_online.specs.declared.status.Status.{Status}
@@ -32,14 +32,15 @@ pub record IsSoundPlay (source : SourceView) (tells : Type 0) (disk : DiskView) 
   pub told : tells
   pub anchor : Anchor
   pub newest : Newest (bytes_on disk) (Some anchor)
+  pub low : AreLow (bytes_on disk)
   pub opens : OpensTable disk.sizes anchor (Ok c)
-  pub plans : planned c lines ≡ Ok n
+  pub plans : lines_planned c lines ≡ Ok n
 
 -- the source has a configuration whose chunks are there
 pub record IsSoundInit (source : SourceView) (disk : DiskView) (c : Config) : Type 0 where
   pub bytes : List ℕ
   pub left : source.left ≡ Some bytes
-  pub config : config_of (take config_limit bytes) ≡ Ok c
+  pub config : config_in_text (take config_limit bytes) ≡ Ok c
   pub large : AreLarge disk.sizes c (chunks_of c)
 
 -- no call of the source, the disk or the sink failed

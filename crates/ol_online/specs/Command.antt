@@ -5,8 +5,8 @@ use Rattle.ol_values.specs.declared.history.Entry.{Entry}
 use Rattle.ol_values.specs.declared.line.Line.{Line}
 use Rattle.ol_values.specs.Config.{Config}
 use Rattle.ol_values.specs.Text.{text}
-use Rattle.ol_outside.specs.Causes.{IsCalm, Rose}
-use Rattle.ol_outside.specs.Disk.{Bytes}
+use Rattle.ol_ports.specs.Causes.{IsCalm, Rose}
+use Rattle.ol_ports.specs.Disk.{Bytes}
 use Rattle.ol_volume.specs.Written.{Written}
 use Rattle.ol_volume.specs.declared.writer.TapeEnd.TheVariants.{OutOfTape as OutEnd, TapeFault as FaultEnd}
 use Rattle.ol_script.specs.Script.{script_of}
@@ -20,7 +20,7 @@ use Rattle.ol_online.specs.declared.words.Verb.{Verb}
 use Rattle.ol_online.specs.declared.words.Verb.TheVariants.{Init, Play}
 use Rattle.ol_online.specs.Initing.{EndsInit}
 use Rattle.ol_online.specs.Opening.{IsOpening}
-use Rattle.ol_online.specs.Planning.{planned}
+use Rattle.ol_online.specs.Planning.{lines_planned}
 use Rattle.ol_online.specs.Playing.{PlaysShort, PlaysWell}
 use Rattle.ol_online.specs.Status.{status_text}
 use Rattle.ol_online.specs.Views.{Change, DiskView, SinkView, SourceView, bytes_on}
@@ -90,15 +90,15 @@ IsUnplayed w told v = (told ≡ Nothing) × (v ≡ w)
 pub record IsPrepared (left : Option (List ℕ)) (tells : Type 0) (d : Bytes) (sizes : ℕ → ℕ) (lines : List Line) (c : Config) (plan : Result ℕ ℕ) : Type 0 where
   pub says : Says left (Ok lines)
   pub opens : IsOpening tells d sizes (Ok c)
-  pub plans : planned c lines ≡ plan
+  pub plans : lines_planned c lines ≡ plan
 
 -- the lines that are played, the configuration that they are played over, and how the play ended
-pub record IsPlayed (c : Config) (lines : List Line) (n : ℕ) (w : Written) (told : Told) (v : Written) (status : Status) : Type 0 where
+pub record IsPlayed (c : Config) (lines : List Line) (n : ℕ) (tape : Change Written) (told : Told) (status : Status) : Type 0 where
   pub history : List Entry
   pub told_is : told ≡ Played c history
-  pub played : PlayedTo c lines (archive_line_in n lines) w history v status
+  pub played : PlayedTo c lines (archive_line_in n lines) tape.old history tape.new status
 
--- why nothing was played: no script was read, no disk was opened, a line is not built, or memory was wanted
+-- why nothing was played: no script was read, no disk was opened, or a line is not built
 abbrev pub EndsUnplayed : Option (List ℕ) → ℕ → ℕ → Type 0 → Bytes → (ℕ → ℕ) → Status → Type 0
 EndsUnplayed left before after tells d sizes status =
     EndsScript left before after (Err status)
@@ -106,10 +106,10 @@ EndsUnplayed left before after tells d sizes status =
     ⊎ ((lines : List Line) × (c : Config) × (n : ℕ) × IsPrepared left tells d sizes lines c (Err n) × (status ≡ BadScript n))
 
 -- how a play ended, by what it read of the source, the disk as it was, what it put on drive 1, what is told and the status
-abbrev pub EndsPlay : Type 0 → Change SourceView → DiskView → Change Written → Told → Status → Type 0
-EndsPlay tells reads disk tape told status =
+abbrev pub EndsPlayed : Type 0 → Change SourceView → DiskView → Change Written → Told → Status → Type 0
+EndsPlayed tells reads disk tape told status =
     (IsUnplayed tape.old told tape.new × EndsUnplayed reads.old.left reads.old.faults reads.new.faults tells (bytes_on disk) disk.sizes status)
-    ⊎ ((lines : List Line) × (c : Config) × (n : ℕ) × IsPrepared reads.old.left tells (bytes_on disk) disk.sizes lines c (Ok n) × IsPlayed c lines n tape.old told tape.new status)
+    ⊎ ((lines : List Line) × (c : Config) × (n : ℕ) × IsPrepared reads.old.left tells (bytes_on disk) disk.sizes lines c (Ok n) × IsPlayed c lines n tape told status)
 
 -- ---- a command
 
@@ -133,7 +133,7 @@ pub record IsInit (tells : Type 0) (reads : Change SourceView) (disk : Change Di
 abbrev pub EndsWork : Option Verb → Type 0 → Change SourceView → Change DiskView → Change Written → Told → Status → Type 0
 EndsWork None tells reads disk tape told status = IsUnplayed tape.old told tape.new × (status ≡ BadWords)
 EndsWork (Some Init) tells reads disk tape told status = IsInit tells reads disk told status × (tape.new ≡ tape.old)
-EndsWork (Some Play) tells reads disk tape told status = EndsPlay tells reads disk.old tape told status
+EndsWork (Some Play) tells reads disk tape told status = EndsPlayed tells reads disk.old tape told status
 
 -- how a command of this verb ended, by what it did to source, disk, drive 1 and sink, with this history and status
 pub record IsCommanded (verb : Option Verb) (tells : Type 0) (reads : Change SourceView) (disk : Change DiskView) (tape : Change Written) (writes : Change SinkView) (h : List Entry) (status : Status) : Type 0 where
@@ -160,7 +160,3 @@ IsPlayStatus NoMemory = Unit {0}
 IsPlayStatus (TapeFault drive) = Unit {0}
 IsPlayStatus (OutOfTape drive) = Unit {0}
 IsPlayStatus _ = ⊥
-
--- what was prepared was played, or memory was wanted before
-abbrev pub EndsPrepared : Config → List Line → ℕ → Change Written → Told → Status → Type 0
-EndsPrepared c lines n tape told status = (IsUnplayed tape.old told tape.new × (status ≡ NoMemory)) ⊎ IsPlayed c lines n tape.old told tape.new status

@@ -1,11 +1,12 @@
 -- What the formatting of a disk for the configuration of a source gives.
 use Rattle.std.specs.Prelude.{Err, IsErrOf, List, Ok, Option, Result, Some, take, ℕ, ◌≡◌, ◌≢◌, ◌⊎◌}
 use Rattle.ol_values.specs.Config.{Config}
-use Rattle.ol_outside.specs.Causes.{Rose}
-use Rattle.ol_outside.specs.Disk.{Bytes, Past, Rest}
-use Rattle.ol_chunks.specs.Reading.{config_of}
+use Rattle.ol_ports.specs.Causes.{Rose}
+use Rattle.ol_ports.specs.Disk.{Bytes, Past, Rest}
+use Rattle.ol_ports.specs.Frames.{FramedAt}
+use Rattle.ol_chunks.specs.Reading.{config_in_text}
 use Rattle.ol_format.specs.First.{AreLarge, IsFirstSmall, chunks_of}
-use Rattle.ol_format.specs.Formatted.{FramedByGates, IsBlankOrFormatted, IsFormatted}
+use Rattle.ol_format.specs.Formatted.{IsBlankOrFormatted, IsFormatted, is_gate}
 use Rattle.ol_format.specs.declared.FormatFault.{FormatFault}
 use Rattle.ol_format.specs.declared.FormatFault.TheVariants.{DiskFault as Fault, TooSmall as Small}
 use Rattle.ol_online.specs.declared.status.Status.{Status}
@@ -17,7 +18,7 @@ config_limit = 1025
 
 -- what the source's bytes are as a configuration, where it tells them
 abbrev pub SaysConfig : Option (List ℕ) → Result Config ℕ → Type 0
-SaysConfig left answer = (bytes : List ℕ) → left ≡ Some bytes → config_of (take config_limit bytes) ≡ answer
+SaysConfig left answer = (bytes : List ℕ) → left ≡ Some bytes → config_in_text (take config_limit bytes) ≡ answer
 
 -- what reading a configuration gives: what the source tells, and its count of faults before and after
 abbrev pub EndsConfig : Option (List ℕ) → ℕ → ℕ → Result Config Status → Type 0
@@ -47,7 +48,7 @@ LeavesDisk result before now = (status : Status) → IsErrOf result status → (
 
 -- what a stop within the command leaves: what a stop before it might have left, but for the gates of the anchor pair; or no anchor, or a disk formatted for the configuration that was read
 abbrev pub IsInitBetween : Option (List ℕ) → Past → Bytes → Type 0
-IsInitBetween left past d = FramedByGates past d ⊎ ((c : Config) × SaysConfig left (Ok c) × IsBlankOrFormatted c d)
+IsInitBetween left past d = FramedAt past is_gate d ⊎ ((c : Config) × SaysConfig left (Ok c) × IsBlankOrFormatted c d)
 
 -- the status of a disk that was not formatted
 abbrev pub status_of_format : FormatFault → Status

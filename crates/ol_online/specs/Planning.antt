@@ -52,5 +52,5 @@ planned_behind c n (line ∷ []) = if is_archive_line c line then Ok n else Err 
 planned_behind c n (line ∷ next ∷ lines) = if is_archive_line c line then Err next.number else Err line.number
 
 -- how many lines of the session stand in front of the archive line or the end, or the number of the first line that is not built
-abbrev pub planned : Config → List Line → Result ℕ ℕ
-planned c lines = planned_behind c (session_count lines) (drop (session_count lines) lines)
+abbrev pub lines_planned : Config → List Line → Result ℕ ℕ
+lines_planned c lines = planned_behind c (session_count lines) (drop (session_count lines) lines)

@@ -22,8 +22,8 @@ use Rattle.ol_rules.specs.Saveset.{places}
 use Rattle.ol_core.specs.Tape.{archive_blocks}
 use Rattle.ol_rules.specs.Transactions.{low_at}
 use Rattle.ol_object.specs.Bytes.{bytes_of}
-use Rattle.ol_outside.specs.Causes.{Rose}
-use Rattle.ol_outside.specs.Drive.{Tape, capacity, stream_of}
+use Rattle.ol_ports.specs.Causes.{Rose}
+use Rattle.ol_ports.specs.Drive.{Tape, capacity, stream_of}
 use Rattle.ol_volume.specs.Written.{EndsPut, Written}
 use Rattle.ol_volume.specs.declared.writer.TapeEnd.{TapeEnd}
 use Rattle.ol_volume.specs.declared.writer.TapeEnd.TheVariants.{OutOfTape, TapeFault}
@@ -34,15 +34,16 @@ use denote.Ref.{Bor}
 
 -- ---- the lines of a play
 
-abbrev pub IsSessionForm : Form → Type 0
-IsSessionForm BeginLine = Unit {0}
-IsSessionForm (InsertLine reg space row) = reg < 10
-IsSessionForm CommitLine = Unit {0}
-IsSessionForm _ = ⊥
+-- a begin, a commit, or an insert with one of ten registers
+abbrev pub IsPlayedForm : Form → Type 0
+IsPlayedForm BeginLine = Unit {0}
+IsPlayedForm (InsertLine reg space row) = reg < 10
+IsPlayedForm CommitLine = Unit {0}
+IsPlayedForm _ = ⊥
 
 -- a line of the session: it begins a transaction, inserts a row or commits
 abbrev pub IsSessionLine : Line → Type 0
-IsSessionLine line = (line.actor ≡ Session 1) × IsSessionForm line.form
+IsSessionLine line = (line.actor ≡ Session 1) × IsPlayedForm line.form
 
 -- the names in an archive line
 abbrev pub names_in : Form → List (List ℕ)
@@ -76,8 +77,8 @@ abbrev pub job_of : Config → Line → List Record → Job
 job_of c line journal = record { config = c; spaces = saved_of c (unwrap_or (spaces_named c (names_in line.form)) []); journal = journal }
 
 -- the archive head that its header and its trailer carry
-abbrev pub head_of : Job → ArchiveHead
-head_of job = record { spaces = job.spaces; text = config_text job.config }
+abbrev pub head_of_job : Job → ArchiveHead
+head_of_job job = record { spaces = job.spaces; text = config_text job.config }
 
 -- ---- how far a play has come
 
@@ -114,16 +115,16 @@ pub record IsWaiting (c : Config) (s : Seen) : Type 0 where
 -- ---- the tape
 
 -- the first archive of these spaces, begun after this journal
-abbrev pub archive_after : Job → Archive
-archive_after job = record { number = 1; level = 0; cut = length job.journal; low = low_at job.journal; spaces = job.spaces; passed = 0 }
+abbrev pub first_archive : Job → Archive
+first_archive job = record { number = 1; level = 0; cut = length job.journal; low = low_at job.journal; spaces = job.spaces; passed = 0 }
 
 -- its blocks: header, the pages that the journal changed, trailer
 abbrev pub whole_archive : Job → List Block
-whole_archive job = archive_blocks (formatted job.config).fixed job.journal (archive_after job)
+whole_archive job = archive_blocks (formatted job.config).fixed job.journal (first_archive job)
 
 -- the pages of such an archive
-abbrev pub pages_in : Job → List (ℕ × ℕ)
-pages_in job = places job.config (take (length job.journal) job.journal) job.spaces
+abbrev pub archive_pages : Job → List (ℕ × ℕ)
+archive_pages job = places job.config (take (length job.journal) job.journal) job.spaces
 
 -- the bytes of the first so many blocks
 abbrev pub first_blocks : ℕ → List Block → List (List ℕ)
@@ -157,10 +158,10 @@ IsSynced t = t.synced ≡ unwrap_or (option_map length (stream_of t)) t.synced
 
 -- the archive of this journal is running, and so many of its pages have passed
 pub record IsRunning (s : Seen) (job : Job) (k : ℕ) : Type 0 where
-  pub archives : s.machine.archives ≡ Some (record (archive_after job) { passed = k }) ∷ replicate 3 None
+  pub archives : s.machine.archives ≡ Some (record (first_archive job) { passed = k }) ∷ replicate 3 None
   pub journal_is : journal_in s.machine ≡ job.journal
   pub fixed : s.machine.fixed ≡ (formatted job.config).fixed
-  pub passed : k ≤ length (pages_in job)
+  pub passed : k ≤ length (archive_pages job)
 
 -- it takes its pages: the header and so many of them stand on tape
 pub record IsCopying (lines : List Line) (line : Line) (job : Job) (w : Written) (s : Seen) (v : Written) (k : ℕ) : Type 0 where
@@ -179,7 +180,7 @@ pub record IsPaged (lines : List Line) (line : Line) (job : Job) (w : Written) (
 pub record IsCopied (lines : List Line) (line : Line) (job : Job) (w : Written) (s : Seen) (v : Written) (k : ℕ) : Type 0 where
   pub turned : IsTurned job.config lines s (line ∷ []) Ending
   pub running : IsRunning s job k
-  pub none : drop k (pages_in job) ≡ []
+  pub none : drop k (archive_pages job) ≡ []
   pub wrote : Wrote w (first_blocks (suc k) (whole_archive job)) v
 
 -- how its copying ended early
@@ -190,8 +191,8 @@ Interrupts lines line job w s v (TapeStop end) =
     ((next : Stage) × IsTurned job.config lines s (line ∷ []) next) × ((k : ℕ) × IsRunning s job k) × WrotePart w (whole_archive job) v × EndsTape w (whole_archive job) v end
 
 -- how many pages of the running archive have not passed
-abbrev pub pages_left : Seen → ℕ
-pages_left s = length (unwrap_or (option_map (left_of s.machine) (archive_of s.machine 1)) [])
+abbrev pub pages_ahead : Seen → ℕ
+pages_ahead s = length (unwrap_or (option_map (left_of s.machine) (archive_of s.machine 1)) [])
 
 -- the archive has begun, and nothing of it is on tape yet
 pub record IsBegun (lines : List Line) (line : Line) (job : Job) (s : Seen) : Type 0 where
@@ -263,9 +264,9 @@ abbrev pub due : Config → Option Line → List Record → List Block
 due c None journal = []
 due c (Some line) journal = whole_archive (job_of c line journal)
 
-abbrev pub IsDurable : Option Line → Tape → Type 0
-IsDurable None t = Unit {0}
-IsDurable (Some line) t = IsSynced t
+abbrev pub IsSyncedArchive : Option Line → Tape → Type 0
+IsSyncedArchive None t = Unit {0}
+IsSyncedArchive (Some line) t = IsSynced t
 
 -- the journal that the entries of a history make from the newly formatted state on
 abbrev pub journal_after : Config → List Entry → List Record
@@ -275,7 +276,7 @@ journal_after c h = journal_of (formatted c) h
 pub record PlaysWell (c : Config) (lines : List Line) (archive : Option Line) (w : Written) (h : List Entry) (v : Written) : Type 0 where
   pub plays : Plays (formatted c) lines h
   pub wrote : Wrote w (map bytes_of (due c archive (journal_after c h))) v
-  pub durable : IsDurable archive v.tape
+  pub durable : IsSyncedArchive archive v.tape
 
 -- a play ended before its work was done: its history is legal, and a first part of its blocks stands on the drive
 abbrev pub PlaysShort : Config → List Line → Option Line → Written → List Entry → Written → PlayEnd → Type 0

@@ -26,21 +26,21 @@ not_ready_text Blank = codes "not ready none"
 not_ready_text Restoring = codes "not ready restoring"
 
 -- words and numbers, and the end of the line
-abbrev pub line_of : List ℕ → List ℕ → List ℕ
-line_of word numbers = counted word numbers ++ (10 ∷ [])
+abbrev pub status_line : List ℕ → List ℕ → List ℕ
+status_line word numbers = counted word numbers ++ (10 ∷ [])
 
 -- a line of text, but for a status that has none
 abbrev pub status_text : Status → List ℕ
 status_text Ok = []
 status_text BadWords = codes "bad words\n"
-status_text (BadScript line) = line_of (codes "bad script") (line ∷ [])
-status_text (BadConfig line) = line_of (codes "bad config") (line ∷ [])
+status_text (BadScript line) = status_line (codes "bad script") (line ∷ [])
+status_text (BadConfig line) = status_line (codes "bad config") (line ∷ [])
 status_text ReadFault = codes "read fault\n"
 status_text WriteFault = []
-status_text (DiskFault chunk) = line_of (codes "disk fault") (chunk ∷ [])
-status_text (TapeFault drive) = line_of (codes "tape fault") (drive ∷ [])
-status_text (OutOfTape drive) = line_of (codes "out of tape") (drive ∷ [])
+status_text (DiskFault chunk) = status_line (codes "disk fault") (chunk ∷ [])
+status_text (TapeFault drive) = status_line (codes "tape fault") (drive ∷ [])
+status_text (OutOfTape drive) = status_line (codes "out of tape") (drive ∷ [])
 status_text (NotReady state) = not_ready_text state ++ (10 ∷ [])
-status_text (BadDisk chunk page) = line_of (codes "bad disk") (chunk ∷ page ∷ [])
-status_text (TooSmall chunk) = line_of (codes "too small") (chunk ∷ [])
+status_text (BadDisk chunk page) = status_line (codes "bad disk") (chunk ∷ page ∷ [])
+status_text (TooSmall chunk) = status_line (codes "too small") (chunk ∷ [])
 status_text NoMemory = codes "no memory\n"

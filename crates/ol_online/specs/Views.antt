@@ -1,7 +1,7 @@
 -- What contracts see of the devices that a command works on.
 use Rattle.std.specs.Prelude.{List, Option, slice_index_or, ℕ}
-use Rattle.ol_outside.specs.Disk.{Bytes, Past, seen}
-use Rattle.ol_outside.specs.Drive.{Tape}
+use Rattle.ol_ports.specs.Disk.{Bytes, Past, seen}
+use Rattle.ol_ports.specs.Drive.{Tape}
 use Rattle.ol_reserve.specs.Pair.{there}
 use Rattle.ol_volume.specs.Written.{Written}
 

@@ -16,12 +16,12 @@ ghost use Rattle.ol_core.specs.Filled.{saved_in};
 ghost use Rattle.ol_object.specs.Spaces.{saved_of};
 ghost use Rattle.ol_values.specs.Config.{Config, data_pages};
 ghost use Rattle.ol_online.specs.Blocks.{IsHead, page_saved};
-ghost use Rattle.ol_online.specs.Playing.{EndsPlay, EndsWell, IsArchiveLine, IsBegun, IsNamed, IsReached, IsRunning, IsTurned, IsWaiting, GaveUp, Job, head_of, job_of, IsReason, drive_in, faults_in, IsCopying, IsCopied, IsOnTape, IsPaged, Interrupts, RefusesPut, pages_left};
+ghost use Rattle.ol_online.specs.Playing.{EndsPlay, EndsWell, IsArchiveLine, IsBegun, IsNamed, IsReached, IsRunning, IsTurned, IsWaiting, GaveUp, Job, head_of_job, job_of, IsReason, drive_in, faults_in, IsCopying, IsCopied, IsOnTape, IsPaged, Interrupts, RefusesPut, pages_ahead};
 
 use ol_chunks::ChunkTable;
 use ol_core::{Core, Running};
 use ol_object::{ArchiveHead, BLOCK_LENGTH, Block, PAYLOAD_LENGTH, encode};
-use ol_outside::Drive;
+use ol_ports::Drive;
 use ol_values::{By, Form, Line, NoMemory, Reply, Why};
 use ol_volume::{TapeEnd, Writer};
 use std::alloc::Global;
@@ -139,7 +139,7 @@ fn encode_page(core: &Core, archive: &Running, space: u8, page: u16, block: &mut
 /// The running archive takes its next page, of which `block` is then the block; false where none is left.
 fn next_page(core: &mut Core, line: &Line, block: &mut [u8; BLOCK_LENGTH]) -> Result<bool, NoMemory>
     requires { IsArchiveLine line.now }
-    ensures fewer { IfOk result (λ more. OnTrue more (pages_left core.new < pages_left core.old)) }
+    ensures fewer { IfOk result (λ more. OnTrue more (pages_ahead core.new < pages_ahead core.old)) }
     ensures taken { (lines : List Line) (job : Job) (w v : Written) (k : ℕ) → IsCopying lines line.now job w core.old v k → IfOk result (λ more. MatchBool more (IsPaged lines line.now job w core.new v k block.new) (IsCopied lines line.now job w core.new v k)) }
     ensures err { OnErr result (core.new ≡ core.old) }
 {
@@ -160,7 +160,7 @@ fn take_page<T: Drive>(
     writer: &mut Writer<T>,
 ) -> Result<bool, PlayEnd>
     requires { IsArchiveLine line.now }
-    ensures fewer { IfOk result (λ more. OnTrue more (pages_left core.new < pages_left core.old)) }
+    ensures fewer { IfOk result (λ more. OnTrue more (pages_ahead core.new < pages_ahead core.old)) }
     ensures taken { (lines : List Line) (job : Job) (w : Written) (k : ℕ) → IsCopying lines line.now job w core.old writer.old k → IfOk result (λ more. MatchBool more (IsCopying lines line.now job w core.new writer.new (k + 1)) (IsCopied lines line.now job w core.new writer.new k)) }
     ensures ended { (lines : List Line) (job : Job) (w : Written) (k : ℕ) → IsCopying lines line.now job w core.old writer.old k → IfErr result (Interrupts lines line.now job w core.new writer.new) }
 {
@@ -242,8 +242,8 @@ fn put_trailer<T: Drive>(
     payload: &[u8; PAYLOAD_LENGTH],
     writer: &mut Writer<T>,
 ) -> Result<(), PlayEnd>
-    ensures copied { (lines : List Line) (line : Line) (job : Job) (w : Written) (k : ℕ) → IsHead (head_of job) used payload.now → IsCopied lines line job w core.now writer.old k → OnOk result (IsOnTape lines line job w core.now writer.new) }
-    ensures ended { (lines : List Line) (line : Line) (job : Job) (w : Written) (k : ℕ) → IsHead (head_of job) used payload.now → IsCopied lines line job w core.now writer.old k → IfErr result (Interrupts lines line job w core.now writer.new) }
+    ensures copied { (lines : List Line) (line : Line) (job : Job) (w : Written) (k : ℕ) → IsHead (head_of_job job) used payload.now → IsCopied lines line job w core.now writer.old k → OnOk result (IsOnTape lines line job w core.now writer.new) }
+    ensures ended { (lines : List Line) (line : Line) (job : Job) (w : Written) (k : ℕ) → IsHead (head_of_job job) used payload.now → IsCopied lines line job w core.now writer.old k → IfErr result (Interrupts lines line job w core.now writer.new) }
 {
     let Some(archive) = core.running() else {
         return Ok(());

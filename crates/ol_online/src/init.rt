@@ -1,15 +1,15 @@
 //! The command `init`: a configuration is read, and the disk is formatted for it.
 
 ghost use Rattle.std.specs.Prelude.{◌≡◌};
-ghost use Rattle.ol_format.specs.Formatted.{IsBetween, Stops};
-ghost use Rattle.ol_online.specs.Initing.{EndsConfig, EndsFormat, EndsInit, IsInitBetween, LeavesDisk, config_limit, status_of_format};
+ghost use Rattle.ol_ports.specs.Stops.{Stops};
+ghost use Rattle.ol_online.specs.Initing.{EndsConfig, EndsInit, IsInitBetween, LeavesDisk, config_limit, status_of_format};
 ghost use Rattle.ol_online.specs.Opening.{HasDiskCause};
 ghost use Rattle.ol_online.specs.Sources.{TakesTo, status_in};
 
 use crate::status::Status;
 use ol_chunks::{ChunkTable, ConfigFault, parse_config};
 use ol_format::{FormatFault, format};
-use ol_outside::{Disk, ReadError, Source, read_all};
+use ol_ports::{Disk, ReadError, Source, read_all};
 use std::alloc::Global;
 
 /// The most bytes that are read of a configuration: one more than any has.
@@ -19,7 +19,7 @@ const CONFIG_LIMIT: usize = 1025;
 ///
 /// `ReadFault` comes where a read of the source failed, and `BadConfig` names the first line that is off the grammar or
 /// breaks a limit. The disk is not touched then. `TooSmall` and `DiskFault` come as in the formatting of the disk,
-/// `NoMemory` where memory was refused.
+/// `NoMemory` where memory for the bytes of the configuration was refused.
 pub(crate) fn init<D: Disk, S: Source>(
     alloc: Global,
     disk: &mut D,
@@ -33,7 +33,10 @@ pub(crate) fn init<D: Disk, S: Source>(
     ensures sizes { D.sizes disk.new ≡ D.sizes disk.old }
 {
     match read_config(alloc, source) {
-        Ok(table) => format_for(disk, &table),
+        Ok(table) => match format(disk, &table) {
+            Ok(()) => Ok(()),
+            Err(fault) => Err(status_of(fault)),
+        },
         Err(status) => Err(status),
     }
 }
@@ -44,27 +47,12 @@ fn read_config<S: Source>(alloc: Global, source: &mut S) -> Result<ChunkTable, S
     ensures reads { TakesTo config_limit (S.left source.old) (S.left source.new) (status_in result) }
 {
     match read_all(alloc, source, CONFIG_LIMIT) {
-        Ok(text) => match parse_config(alloc, &text) {
+        Ok(text) => match parse_config(&text) {
             Ok(table) => Ok(table),
             Err(ConfigFault::BadConfig { line }) => Err(Status::BadConfig { line }),
-            Err(ConfigFault::NoMemory) => Err(Status::NoMemory),
         },
         Err(ReadError::Failed) => Err(Status::ReadFault),
         Err(ReadError::NoMemory) => Err(Status::NoMemory),
-    }
-}
-
-/// Formats a disk for a configuration.
-fn format_for<D: Disk>(disk: &mut D, table: &ChunkTable) -> Result<(), Status>
-    ensures ended { EndsFormat D.tells (D.sizes disk.old) (D.past disk.new) table.now result }
-    ensures untouched { LeavesDisk result disk.old disk.new }
-    ensures stops { D.tells → Stops (D.past disk.old) (D.past disk.new) (IsBetween (D.past disk.old) table.now) }
-    ensures cause { HasDiskCause (D.fault_counts disk.old) (D.fault_counts disk.new) result }
-    ensures sizes { D.sizes disk.new ≡ D.sizes disk.old }
-{
-    match format(disk, table) {
-        Ok(()) => Ok(()),
-        Err(fault) => Err(status_of(fault)),
     }
 }
 

@@ -13,7 +13,7 @@ mod words;
 mod work;
 
 ghost use Rattle.std.specs.Prelude.{◌≡◌, ◌≢◌, ℕ, None, Some, All, length, slice_index_or};
-ghost use Rattle.ol_format.specs.Formatted.{Stops};
+ghost use Rattle.ol_ports.specs.Stops.{Stops};
 ghost use Rattle.ol_online.specs.Calm.{FormatsCalmly, PlaysCalmly};
 ghost use Rattle.ol_online.specs.Command.{IsCommanded};
 ghost use Rattle.ol_online.specs.Initing.{IsInitBetween};
@@ -24,7 +24,7 @@ ghost use Rattle.ol_online.specs.Words.{verb_told};
 
 use crate::told::report;
 use crate::work::work;
-use ol_outside::{Disk, Drive, Shelf, Sink, Source};
+use ol_ports::{Disk, Drive, Shelf, Sink, Source};
 use ol_values::History;
 pub use output::write_history;
 pub use status::{NotReady, Status, write_status};

@@ -2,11 +2,11 @@
 
 ghost use Rattle.std.specs.Prelude.{◌≡◌, ◌∷◌, ℕ, OnErr, OnOk, not, take};
 ghost use Rattle.std.specs.Io.KnownBytes.{Appends};
-ghost use Rattle.ol_outside.specs.Causes.{HasCause};
+ghost use Rattle.ol_ports.specs.Causes.{HasCause};
 ghost use Rattle.ol_values.specs.Text.{IsInLineOrder, is_followed, text};
 
 use ol_chunks::ChunkTable;
-use ol_outside::{Failed, Sink, write_all};
+use ol_ports::{Failed, Sink, write_all};
 use ol_script::{ENTRY_LIMIT, text as put_text};
 use ol_values::Entry;
 

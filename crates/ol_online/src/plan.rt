@@ -2,7 +2,7 @@
 
 ghost use Rattle.std.specs.Prelude.{◌≡◌, ◌<◌, ◌≤◌, IfOk, IfSome, length, not, position};
 ghost use Rattle.std.specs.List.{list_all};
-ghost use Rattle.ol_online.specs.Planning.{planned, planned_behind, session_count};
+ghost use Rattle.ol_online.specs.Planning.{lines_planned, planned_behind, session_count};
 ghost use Rattle.ol_online.specs.Planning.{is_archive_form as archives, is_archive_line as archive_line, is_archiver_1 as archiver_1, is_session_form as session_form, is_session_line as session_line, is_session_1 as session_1, is_space as a_space};
 
 use ol_chunks::{ChunkTable, Name};
@@ -12,7 +12,7 @@ use ol_values::{Actor, Form, Label, Labels, Line};
 /// the first line that is not built: any but a begin, an insert or a commit of session 1, and a last line of archiver 1
 /// that archives spaces of the table at level 0.
 pub(crate) fn plan(lines: &[Line], table: &ChunkTable) -> Result<usize, u16>
-    ensures value { result ≡ planned table.now lines.now }
+    ensures value { result ≡ lines_planned table.now lines.now }
     ensures count { IfOk result (λ n. n ≡ session_count lines.now) }
     ensures limit { IfOk result (λ n. n ≤ length lines.now) }
 {

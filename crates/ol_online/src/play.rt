@@ -12,7 +12,7 @@ ghost use Rattle.ol_online.specs.Playing.{IsArchiveLine, IsNamed, IsReached, IsR
 use crate::archive::{PlayEnd, archive, by_of};
 use ol_chunks::ChunkTable;
 use ol_core::Core;
-use ol_outside::Drive;
+use ol_ports::Drive;
 use ol_values::{Form, History, Line, NoMemory};
 use ol_volume::Writer;
 use std::alloc::Global;

@@ -2,11 +2,11 @@
 
 ghost use Rattle.std.specs.Prelude.{◌≡◌, ◌≤◌, ℕ, OnErr, OnOk, length, take};
 ghost use Rattle.std.specs.Io.KnownBytes.{Appends};
-ghost use Rattle.ol_outside.specs.Causes.{HasCause};
+ghost use Rattle.ol_ports.specs.Causes.{HasCause};
 ghost use Rattle.ol_online.specs.Status.{code_of, not_ready_text, status_text};
 
 use ol_bytes::put;
-use ol_outside::{Failed, Sink, write_all};
+use ol_ports::{Failed, Sink, write_all};
 use ol_script::put_words;
 
 /// The most bytes of a status's text.

@@ -3,14 +3,14 @@
 ghost use Rattle.std.specs.Prelude.{◌≡◌, ◌≢◌, ℕ, OnErr, OnOk, take};
 ghost use Rattle.std.specs.Io.KnownBytes.{Appends};
 ghost use Rattle.ol_values.specs.Text.{IsInLineOrder};
-ghost use Rattle.ol_outside.specs.Causes.{HasCause};
+ghost use Rattle.ol_ports.specs.Causes.{HasCause};
 ghost use Rattle.ol_online.specs.Command.{IsReported, WritesOut, history_in, output_of, told_text};
 ghost use Rattle.ol_online.specs.Views.{writing};
 
 use crate::output::write_history;
 use crate::status::{Status, write_status};
 use ol_chunks::ChunkTable;
-use ol_outside::{Failed, Sink, write_all};
+use ol_ports::{Failed, Sink, write_all};
 use ol_values::History;
 use std::alloc::Global;
 

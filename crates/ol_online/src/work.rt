@@ -1,18 +1,18 @@
 //! The work of a command, but for its output.
 
 ghost use Rattle.std.specs.Prelude.{◌≡◌, ◌≢◌, ◌≤◌, ℕ, None, Some, All, IfErr, IfOk, IfSome, Ok, length, slice_index_or};
-ghost use Rattle.ol_format.specs.Formatted.{Stops};
+ghost use Rattle.ol_ports.specs.Stops.{Stops};
 ghost use Rattle.ol_values.specs.Text.{IsInLineOrder};
 ghost use Rattle.ol_chunks.specs.Limits.{IsConfig};
 ghost use Rattle.ol_rules.specs.Scripts.{Ascends};
-ghost use Rattle.ol_outside.specs.Disk.{seen};
+ghost use Rattle.ol_ports.specs.Disk.{seen};
 ghost use Rattle.ol_reserve.specs.Pair.{there};
 ghost use Rattle.ol_script.specs.Script.{script_limit};
 ghost use Rattle.ol_script.specs.Spelling.{IsLine};
-ghost use Rattle.ol_online.specs.Command.{EndsPrepared, EndsScript, EndsUnplayed, EndsWork, IsPlayStatus, IsPrepared, PlayedTo, archive_line_in, history_in, status_of_play};
+ghost use Rattle.ol_online.specs.Command.{EndsScript, EndsUnplayed, EndsWork, IsPlayStatus, IsPlayed, IsPrepared, PlayedTo, archive_line_in, history_in, status_of_play};
 ghost use Rattle.ol_online.specs.Initing.{IsInitBetween};
 ghost use Rattle.ol_online.specs.Opening.{HasDiskCause, HasStatusCause};
-ghost use Rattle.ol_online.specs.Planning.{planned};
+ghost use Rattle.ol_online.specs.Planning.{lines_planned};
 ghost use Rattle.ol_online.specs.Sources.{TakesTo, limit_of, status_in};
 ghost use Rattle.ol_online.specs.Views.{drive_1, reading, storing, taping};
 ghost use Rattle.ol_online.specs.Words.{verb_told};
@@ -25,8 +25,8 @@ use crate::play::play;
 use crate::status::Status;
 use crate::told::Told;
 use crate::words::{Verb, Words};
-use ol_chunks::{ChunkTable, ConfigFault, parse_config};
-use ol_outside::{Disk, Drive, Source};
+use ol_chunks::{ChunkTable, parse_config};
+use ol_ports::{Disk, Drive, Source};
 use ol_script::{Script, ScriptFault, parse};
 use ol_values::{History, Line};
 use ol_volume::{TapeEnd, Writer};
@@ -100,7 +100,7 @@ fn prepare<D: Disk, S: Source>(
         Ok(script) => script,
         Err(status) => return Err(status),
     };
-    let table = match open(alloc, disk) {
+    let table = match open(disk) {
         Ok(table) => table,
         Err(status) => return Err(status),
     };
@@ -131,11 +131,11 @@ fn read_script<S: Source>(alloc: Global, source: &mut S) -> Result<Script, Statu
 
 /// Plays what was prepared over the drive of archiver 1.
 fn play_prepared<T: Drive>(alloc: Global, prepared: Prepared, drives: &mut Vec<T>) -> (Told, Status)
-    requires built { planned prepared.table prepared.script ≡ Ok prepared.sessions }
+    requires built { lines_planned prepared.table prepared.script ≡ Ok prepared.sessions }
     requires config { IsConfig prepared.table }
     requires five { length drives.old.items ≡ 5 }
     requires empty { All (λ d. (T.tape d).room ≡ 0) drives.old.items }
-    ensures played { (d : T) → EndsPrepared prepared.table prepared.script prepared.sessions
+    ensures played { (d : T) → IsPlayed prepared.table prepared.script prepared.sessions
         (taping T.tape T.fault_count d drives.old.items drives.new.items) result.0 result.1 }
     ensures order { IsInLineOrder (history_in result.0) }
     ensures kinds { IsPlayStatus result.1 }
@@ -148,9 +148,7 @@ fn play_prepared<T: Drive>(alloc: Global, prepared: Prepared, drives: &mut Vec<T
         sessions,
     } = prepared;
     // the engine keeps one table, and the output takes the names from the other
-    let Some(engine_table) = second_table(alloc, &table) else {
-        return (Told::Nothing, Status::NoMemory);
-    };
+    let engine_table = second_table(&table);
     let (drive, history, status) = play_on(
         alloc,
         drives.remove(ARCHIVE_DRIVE as usize),
@@ -165,20 +163,19 @@ fn play_prepared<T: Drive>(alloc: Global, prepared: Prepared, drives: &mut Vec<T
     (Told::Played { table, history }, status)
 }
 
-/// A table of the same configuration; None where memory was refused.
-fn second_table(alloc: Global, table: &ChunkTable) -> Option<ChunkTable>
+/// A table of the same configuration.
+fn second_table(table: &ChunkTable) -> ChunkTable
     requires { IsConfig table.now }
-    ensures { IfSome result (λ second. second ≡ table.now) }
+    ensures { result ≡ table.now }
 {
     let mut text = [0; 1024];
     let count = table.text(&mut text);
     let (text, _) = text.split_at(count);
-    match parse_config(alloc, text) {
-        Ok(second) => Some(second),
-        Err(ConfigFault::NoMemory) => None,
-        // a table's text is its configuration
-        Err(ConfigFault::BadConfig { line: _ }) => unreachable!(),
-    }
+    // a table's text is its configuration
+    let Ok(second) = parse_config(text) else {
+        unreachable!()
+    };
+    second
 }
 
 /// Plays lines over a drive, so many of the session's and then the archive line, and gives the drive back.
@@ -189,7 +186,7 @@ fn play_on<T: Drive>(
     lines: &[Line],
     sessions: usize,
 ) -> (T, History, Status)
-    requires built { planned table lines.now ≡ Ok sessions }
+    requires built { lines_planned table lines.now ≡ Ok sessions }
     requires forms { All IsLine lines.now }
     requires rising { Ascends lines.now }
     requires empty { (T.tape drive).room ≡ 0 }

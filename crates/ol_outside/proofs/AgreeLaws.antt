@@ -4,11 +4,12 @@ use Rattle.std.proofs.lemmas.Bool.{cases_eq}
 use Rattle.std.proofs.lemmas.Bool.Decides.{nat_tests}
 use Rattle.std.proofs.lemmas.List.{get_or-take, get_or-drop, length-take-le, length-replicate, length-map, get_or-replicate, get_or_past, get_or-set_same, get_or-set_other}
 use Rattle.std.proofs.Math.ListN.{set}
-use Rattle.ol_outside.specs.Causes.{HasChunkCause}
-use Rattle.ol_outside.specs.Disk.{Call, Wrote, Synced, Passed, Past, began, after, seen, Shows}
-use Rattle.ol_outside.specs.Chunks.{chunk_bytes, lengths, zero_chunks, with_piece, HasPage, Holds}
+use Rattle.ol_ports.specs.Causes.{HasChunkCause}
+use Rattle.ol_ports.specs.Disk.{Call, Wrote, Synced, Passed, Past, first_bytes, bytes_after, page_list, seen}
+use Rattle.ol_ports.proofs.DiskLaws.{page_list-is}
+use Rattle.ol_outside.specs.Chunks.{chunk_bytes, lengths, zero_chunks, with_piece, HasPage, ChunksHold}
 use Rattle.ol_outside.specs.Devices.{LeavesNothing}
-use Rattle.ol_outside.specs.KeptCalls.{passes, PassesOver, FitsIn, Agrees}
+use Rattle.ol_outside.specs.KeptCalls.{passes, PassesOver, AllFitIn, FitsIn, Agrees}
 use Rattle.ol_outside.proofs.ChunkLaws.{lengths-count, lengths-chunk}
 use Rattle.ol_outside.proofs.ImageLaws.{fits-lengths, lengths-redone, holds-none, holds-redone}
 
@@ -88,27 +89,41 @@ module _ (base bytes : List (List ℕ)) (calls new : List Call) (sizes : List �
   })
 
 -- a page that is read
-pub page-shown : (base bytes : List (List ℕ)) (calls : List Call) (chunk page : ℕ) (buf : List ℕ) → Holds bytes (after base calls) → HasPage bytes chunk page → buf ≡ take 2048 (drop (2048 * page) (chunk_bytes bytes chunk)) → Shows (seen (record { base = base; calls = calls })) chunk page buf
-unfolding seen began
+pub page-shown : (base bytes : List (List ℕ)) (calls : List Call) (chunk page : ℕ) (buf : List ℕ) → ChunksHold bytes (bytes_after base calls) → HasPage bytes chunk page → buf ≡ take 2048 (drop (2048 * page) (chunk_bytes bytes chunk)) → buf ≡ page_list (seen (record { base = base; calls = calls })) chunk page
+unfolding seen first_bytes
 page-shown base bytes calls chunk page buf holds room is =
     let chunk_is = chunk_bytes bytes chunk in
-    record {
-      size = ap length is ∙ length-take-le 2048 (drop (2048 * page) chunk_is) (omega (arith, length-drop (2048 * page) chunk_is));
-      each = λ i lt. ap (λ l. get_or l i 0) is ∙ get_or-take 2048 (drop (2048 * page) chunk_is) i 0 lt ∙ get_or-drop (2048 * page) chunk_is i 0 ∙ from_start i lt ∙ holds.each chunk page i;
-    }
+    page_list-is (seen (record { base = base; calls = calls })) chunk page buf (ap length is ∙ length-take-le 2048 (drop (2048 * page) chunk_is) (omega (arith, length-drop (2048 * page) chunk_is)))
+    (λ i lt. ap (λ l. get_or l i 0) is ∙ get_or-take 2048 (drop (2048 * page) chunk_is) i 0 lt ∙ get_or-drop (2048 * page) chunk_is i 0 ∙ from_start i lt ∙ holds.each chunk page i)
   where
-    from_start : (i : ℕ) → i < 2048 → get_or (chunk_bytes bytes chunk) (2048 * page + i) 0 ≡ began bytes chunk page i
+    from_start : (i : ℕ) → i < 2048 → get_or (chunk_bytes bytes chunk) (2048 * page + i) 0 ≡ first_bytes bytes chunk page i
     from_start i lt =
         let low : nat_lt i 2048 ≡ true = grind (arith, nat_tests) in rw low refl
 
--- a disk that begins with these bytes
-pub agrees-begun : (base bytes : List (List ℕ)) (calls : List Call) (sizes : List ℕ) → base ≡ bytes → calls ≡ [] → lengths bytes ≡ map (λ pages. 2048 * pages) sizes → Agrees base bytes calls sizes 0
-agrees-begun base bytes calls sizes same none sized = subst (λ l. Agrees base bytes l sizes 0) (sym none) (record {
-  holds = subst (λ b. Holds bytes (after b [])) (sym same) (holds-none bytes);
+-- a disk that begins with these bytes, after so many calls that have left nothing
+fits-passes : (base : List (List ℕ)) (n : ℕ) → AllFitIn base (passes n [])
+fits-passes base zero = tt
+fits-passes base (suc n) = (tt, fits-passes base n)
+
+pub after-passes : (base : List (List ℕ)) (n c p i : ℕ) → bytes_after base (passes n []) c p i ≡ first_bytes base c p i
+unfolding bytes_after
+after-passes base zero c p i = refl
+after-passes base (suc n) c p i = after-passes base n c p i
+
+holds-passes : (base : List (List ℕ)) (n : ℕ) → ChunksHold base (bytes_after base (passes n []))
+holds-passes base n = record { each = λ c p i. sym (after-passes base n c p i) }
+
+count-passes : (n : ℕ) → length (passes n []) ≡ n
+count-passes zero = refl
+count-passes (suc n) = omega (arith, count-passes n)
+
+pub agrees-begun : (base bytes : List (List ℕ)) (calls : List Call) (sizes : List ℕ) (n : ℕ) → base ≡ bytes → calls ≡ passes n [] → n < 2 ^ 64 → lengths bytes ≡ map (λ pages. 2048 * pages) sizes → Agrees base bytes calls sizes n
+agrees-begun base bytes calls sizes n same none lt sized = subst (λ l. Agrees base bytes l sizes n) (sym none) (record {
+  holds = subst (λ b. ChunksHold b (bytes_after base (passes n []))) same (holds-passes base n);
   base_sized = ap lengths same ∙ sized;
   bytes_sized = ap lengths (sym same);
-  fits = tt;
-  counted = omega arith;
+  fits = fits-passes base n;
+  counted = omega (arith, lt, count-passes n);
 })
 
 -- a fault of one chunk is counted
@@ -170,8 +185,8 @@ zeroes-below n j true = zeroes-at n j
 zeroes-below n j false = refl
 
 -- a chunk that is made zero reads so, and the rest stays
-pub began-zero : (chunks : List (List ℕ)) (chunk c p i : ℕ) → chunk < length chunks → began (set chunks chunk (replicate (length (chunk_bytes chunks chunk)) 0)) c p i ≡ (if c == chunk then 0 else began chunks c p i)
-unfolding began
+pub began-zero : (chunks : List (List ℕ)) (chunk c p i : ℕ) → chunk < length chunks → first_bytes (set chunks chunk (replicate (length (chunk_bytes chunks chunk)) 0)) c p i ≡ (if c == chunk then 0 else first_bytes chunks c p i)
+unfolding first_bytes
 began-zero chunks chunk c p i lt =
     let none = zeroes (length (chunk_bytes chunks chunk)) in
     elim (cases_eq c chunk) [

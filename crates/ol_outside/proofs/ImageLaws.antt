@@ -3,14 +3,14 @@ use Rattle.std.proofs.Common.{◌≡◌, ◌≢◌, ◌⊎◌, inl, inr, ⊎_eli
 use Rattle.std.proofs.lemmas.Bool.{cases_eq}
 use Rattle.std.proofs.lemmas.Bool.Decides.{nat_tests}
 use Rattle.std.proofs.lemmas.List.{get_or-take, get_or-drop, get_or_append_left, get_or-append_right, length-take-le, get_or-set_same, get_or-set_other, length-drop, length-replicate, get_or-replicate}
-use Rattle.ol_outside.specs.Disk.{Call, Wrote, Synced, Passed, began, is_within, after, is_open}
-use Rattle.ol_outside.specs.Chunks.{chunk_bytes, lengths, spliced, with_piece, with_chunk, HasPage, Holds}
-use Rattle.ol_outside.specs.Images.{last_synced, filled, chosen, redone, image_after}
+use Rattle.ol_ports.specs.Disk.{Call, Wrote, Synced, Passed, first_bytes, is_within, bytes_after, is_open}
+use Rattle.ol_outside.specs.Chunks.{chunk_bytes, lengths, spliced, with_piece, with_chunk, HasPage, ChunksHold}
+use Rattle.ol_outside.specs.Images.{last_synced, filled_image, chosen, redone, image_after}
 use Rattle.ol_outside.specs.KeptCalls.{FitsIn, passes}
 use Rattle.ol_outside.specs.declared.memory_disk.Choice.{Choice}
 use Rattle.ol_outside.specs.declared.memory_disk.Choice.TheVariants.{Old, New, Fill}
 use Rattle.ol_outside.proofs.ChunkLaws.{chunk-there, lengths-count, lengths-chunk, lengths-set}
-use Rattle.ol_outside.proofs.DiskLaws.{within-elsewhere, within-front, within-behind, within-inside}
+use Rattle.ol_ports.proofs.DiskLaws.{within-elsewhere, within-front, within-behind, within-inside}
 
 -- a piece within a list: what stands before it, in it and behind it
 module _ (bytes piece : List ℕ) (at : ℕ) (fits : at + length piece ≤ length bytes) where
@@ -56,10 +56,10 @@ module _ (chunks : List (List ℕ)) (chunk page offset : ℕ) (piece : List ℕ)
   apart p i lt other = grind arith
 
   abbrev wanted : ℕ → ℕ → ℕ → ℕ
-  wanted c p i = if is_within chunk page offset (length piece) c p i then get_or piece (i - offset) 0 else began chunks c p i
+  wanted c p i = if is_within chunk page offset (length piece) c p i then get_or piece (i - offset) 0 else first_bytes chunks c p i
 
   at_page : (i : ℕ) → i < 2048 → (i < offset) ⊎ ((offset ≤ i) × (i < offset + length piece) ⊎ (offset + length piece ≤ i)) → get_or (spliced (chunk_bytes chunks chunk) (2048 * page + offset) piece) (2048 * page + i) 0 ≡ wanted chunk page i
-  unfolding began
+  unfolding first_bytes
   at_page i lt (inl b) =
       let low : nat_lt i 2048 ≡ true = grind (arith, nat_tests) in
       rw (within-front chunk page offset (length piece) i b, low) (spliced-before (chunk_bytes chunks chunk) piece (2048 * page + offset) room_at (2048 * page + i) (omega arith))
@@ -70,7 +70,7 @@ module _ (chunks : List (List ℕ)) (chunk page offset : ℕ) (piece : List ℕ)
       rw (within-behind chunk page offset (length piece) i b, low) (spliced-behind (chunk_bytes chunks chunk) piece (2048 * page + offset) room_at (2048 * page + i) (omega arith))
 
   inner : (p i : ℕ) → i < 2048 → get_or (spliced (chunk_bytes chunks chunk) (2048 * page + offset) piece) (2048 * p + i) 0 ≡ wanted chunk p i
-  unfolding began
+  unfolding first_bytes
   inner p i lt = elim (place p i) [
     | inr other ↦
         let low : nat_lt i 2048 ≡ true = grind (arith, nat_tests) in
@@ -80,7 +80,7 @@ module _ (chunks : List (List ℕ)) (chunk page offset : ℕ) (piece : List ℕ)
   ]
 
   below : (c p i : ℕ) → i < 2048 → get_or (chunk_bytes (with_piece chunks chunk (2048 * page + offset) piece) c) (2048 * p + i) 0 ≡ wanted c p i
-  unfolding began
+  unfolding first_bytes
   below c p i lt = elim (cases_eq c chunk) [
     | inr other ↦
         let low : nat_lt i 2048 ≡ true = grind (arith, nat_tests) in
@@ -89,20 +89,20 @@ module _ (chunks : List (List ℕ)) (chunk page offset : ℕ) (piece : List ℕ)
   ]
 
   high : (c p i : ℕ) → 2048 ≤ i → 0 ≡ wanted c p i
-  unfolding began is_within
+  unfolding first_bytes is_within
   high c p i le = grind (arith, nat_tests)
 
   -- the piece stands in its range, and the rest stays
-  pub began-piece : (c p i : ℕ) → began (with_piece chunks chunk (2048 * page + offset) piece) c p i ≡ (if is_within chunk page offset (length piece) c p i then get_or piece (i - offset) 0 else began chunks c p i)
-  unfolding began
+  pub began-piece : (c p i : ℕ) → first_bytes (with_piece chunks chunk (2048 * page + offset) piece) c p i ≡ (if is_within chunk page offset (length piece) c p i then get_or piece (i - offset) 0 else first_bytes chunks c p i)
+  unfolding first_bytes
   began-piece c p i = elim (split i) [
     | inl lt ↦
         let low : nat_lt i 2048 ≡ true = grind (arith, nat_tests) in
-        let at : began (with_piece chunks chunk (2048 * page + offset) piece) c p i ≡ get_or (chunk_bytes (with_piece chunks chunk (2048 * page + offset) piece) c) (2048 * p + i) 0 = rw low refl in
+        let at : first_bytes (with_piece chunks chunk (2048 * page + offset) piece) c p i ≡ get_or (chunk_bytes (with_piece chunks chunk (2048 * page + offset) piece) c) (2048 * p + i) 0 = rw low refl in
         at ∙ below c p i lt
     | inr le ↦
         let up : nat_lt i 2048 ≡ false = grind (arith, nat_tests) in
-        let none : began (with_piece chunks chunk (2048 * page + offset) piece) c p i ≡ 0 = rw up refl in
+        let none : first_bytes (with_piece chunks chunk (2048 * page + offset) piece) c p i ≡ 0 = rw up refl in
         none ∙ high c p i le
   ]
     where
@@ -110,8 +110,8 @@ module _ (chunks : List (List ℕ)) (chunk page offset : ℕ) (piece : List ℕ)
       split i = grind arith
 
 -- a chunk that is taken from others is theirs, and the rest stays
-pub began-chunk : (chunks others : List (List ℕ)) (chunk c p i : ℕ) → chunk < length chunks → began (with_chunk chunks chunk (chunk_bytes others chunk)) c p i ≡ (if c == chunk then began others c p i else began chunks c p i)
-unfolding began
+pub began-chunk : (chunks others : List (List ℕ)) (chunk c p i : ℕ) → chunk < length chunks → first_bytes (with_chunk chunks chunk (chunk_bytes others chunk)) c p i ≡ (if c == chunk then first_bytes others c p i else first_bytes chunks c p i)
+unfolding first_bytes
 began-chunk chunks others chunk c p i lt = elim (cases_eq c chunk) [
   | inl same ↦
       let is : chunk_bytes (with_chunk chunks chunk (chunk_bytes others chunk)) c ≡ chunk_bytes others c = ap (chunk_bytes (with_chunk chunks chunk (chunk_bytes others chunk))) same ∙ get_or-set_same chunks chunk (chunk_bytes others chunk) [] lt ∙ ap (chunk_bytes others) (sym same) in
@@ -143,19 +143,19 @@ lengths-image_after choice (Synced chunk) written image fits same = lengths-set 
 lengths-image_after choice Passed written image fits same = refl
 
 -- chunks hold what they begin with
-pub holds-none : (chunks : List (List ℕ)) → Holds chunks (after chunks [])
-unfolding after
+pub holds-none : (chunks : List (List ℕ)) → ChunksHold chunks (bytes_after chunks [])
+unfolding bytes_after
 holds-none chunks = record { each = λ c p i. refl }
 
-pub holds-none-chosen : (choice : Choice) (chunks : List (List ℕ)) → Holds chunks (chosen choice chunks [])
-unfolding after chosen last_synced filled is_open
+pub holds-none-chosen : (choice : Choice) (chunks : List (List ℕ)) → ChunksHold chunks (chosen choice chunks [])
+unfolding bytes_after chosen last_synced filled_image is_open
 holds-none-chosen Old chunks = record { each = λ c p i. refl }
 holds-none-chosen New chunks = record { each = λ c p i. refl }
 holds-none-chosen (Fill byte) chunks = record { each = λ c p i. refl }
 
 -- a call more that is done to them
-pub holds-redone : (base chunks : List (List ℕ)) (calls : List Call) (call : Call) → FitsIn chunks call → Holds chunks (after base calls) → Holds (redone call chunks) (after base (call ∷ calls))
-unfolding after
+pub holds-redone : (base chunks : List (List ℕ)) (calls : List Call) (call : Call) → FitsIn chunks call → ChunksHold chunks (bytes_after base calls) → ChunksHold (redone call chunks) (bytes_after base (call ∷ calls))
+unfolding bytes_after
 holds-redone base chunks calls (Wrote chunk page offset bytes) fits holds = record {
   each = λ c p i. began-piece chunks chunk page offset bytes fits.0 fits.1 c p i ∙ ap (λ b. if is_within chunk page offset (length bytes) c p i then get_or bytes (i - offset) 0 else b) (holds.each c p i);
 }
@@ -171,30 +171,30 @@ unfolding is_within
 within-bounds chunk page offset size c p i is = (grind (arith, nat_tests), grind (arith, nat_tests))
 
 -- a byte of the image that is filled, after a write
-filled-wrote : (base : List (List ℕ)) (calls : List Call) (byte chunk page offset : ℕ) (bytes : List ℕ) (c p i x : ℕ) → x ≡ filled base calls byte c p i
-    → (if is_within chunk page offset (length (replicate (length bytes) byte)) c p i then get_or (replicate (length bytes) byte) (i - offset) 0 else x) ≡ filled base (Wrote chunk page offset bytes ∷ calls) byte c p i
-unfolding filled after is_open
+filled-wrote : (base : List (List ℕ)) (calls : List Call) (byte chunk page offset : ℕ) (bytes : List ℕ) (c p i x : ℕ) → x ≡ filled_image base calls byte c p i
+    → (if is_within chunk page offset (length (replicate (length bytes) byte)) c p i then get_or (replicate (length bytes) byte) (i - offset) 0 else x) ≡ filled_image base (Wrote chunk page offset bytes ∷ calls) byte c p i
+unfolding filled_image bytes_after is_open
 filled-wrote base calls byte chunk page offset bytes c p i x is = rw (length-replicate (length bytes) byte) (elim (bool_is (is_within chunk page offset (length bytes) c p i)) [
   | inl is_in ↦ let bounds = within-bounds chunk page offset (length bytes) c p i is_in in rw is_in (get_or-replicate (length bytes) (i - offset) byte 0 (omega arith))
   | inr is_out ↦ rw is_out is
 ])
 
 -- a byte of the image of a choice, after a sync
-chosen-synced : (choice : Choice) (base : List (List ℕ)) (calls : List Call) (chunk c p i x y : ℕ) → x ≡ after base calls c p i → y ≡ chosen choice base calls c p i → (if c == chunk then x else y) ≡ chosen choice base (Synced chunk ∷ calls) c p i
-unfolding after chosen last_synced filled is_open
+chosen-synced : (choice : Choice) (base : List (List ℕ)) (calls : List Call) (chunk c p i x y : ℕ) → x ≡ bytes_after base calls c p i → y ≡ chosen choice base calls c p i → (if c == chunk then x else y) ≡ chosen choice base (Synced chunk ∷ calls) c p i
+unfolding bytes_after chosen last_synced filled_image is_open
 chosen-synced Old base calls chunk c p i x y written kept = elim (bool_is (c == chunk)) [ inl same ↦ rw same written | inr other ↦ rw other kept ]
 chosen-synced New base calls chunk c p i x y written kept = elim (bool_is (c == chunk)) [ inl same ↦ rw same written | inr other ↦ rw other kept ]
 chosen-synced (Fill byte) base calls chunk c p i x y written kept = elim (bool_is (c == chunk)) [ inl same ↦ rw same written | inr other ↦ rw other kept ]
 
 chosen-passed : (choice : Choice) (base : List (List ℕ)) (calls : List Call) (c p i : ℕ) → chosen choice base calls c p i ≡ chosen choice base (Passed ∷ calls) c p i
-unfolding after chosen last_synced filled is_open
+unfolding bytes_after chosen last_synced filled_image is_open
 chosen-passed Old base calls c p i = refl
 chosen-passed New base calls c p i = refl
 chosen-passed (Fill byte) base calls c p i = refl
 
 -- and one that is done to the image of a choice
-pub holds-image_after : (base written image : List (List ℕ)) (calls : List Call) (choice : Choice) (call : Call) → FitsIn image call → Holds written (after base calls) → Holds image (chosen choice base calls) → Holds (image_after choice call written image) (chosen choice base (call ∷ calls))
-unfolding after chosen last_synced
+pub holds-image_after : (base written image : List (List ℕ)) (calls : List Call) (choice : Choice) (call : Call) → FitsIn image call → ChunksHold written (bytes_after base calls) → ChunksHold image (chosen choice base calls) → ChunksHold (image_after choice call written image) (chosen choice base (call ∷ calls))
+unfolding bytes_after chosen last_synced
 holds-image_after base written image calls Old (Wrote chunk page offset bytes) fits before holds = record { each = λ c p i. holds.each c p i }
 holds-image_after base written image calls New (Wrote chunk page offset bytes) fits before holds = record {
   each = λ c p i. began-piece image chunk page offset bytes fits.0 fits.1 c p i ∙ ap (λ b. if is_within chunk page offset (length bytes) c p i then get_or bytes (i - offset) 0 else b) (holds.each c p i);
@@ -202,16 +202,16 @@ holds-image_after base written image calls New (Wrote chunk page offset bytes) f
 holds-image_after base written image calls (Fill byte) (Wrote chunk page offset bytes) fits before holds = record {
   each = λ c p i.
       began-piece image chunk page offset (replicate (length bytes) byte) fits.0 (omega (arith, fits.1, length-replicate (length bytes) byte)) c p i
-      ∙ filled-wrote base calls byte chunk page offset bytes c p i (began image c p i) (holds.each c p i);
+      ∙ filled-wrote base calls byte chunk page offset bytes c p i (first_bytes image c p i) (holds.each c p i);
 }
 holds-image_after base written image calls choice (Synced chunk) fits before holds = record {
-  each = λ c p i. began-chunk image written chunk c p i fits ∙ chosen-synced choice base calls chunk c p i (began written c p i) (began image c p i) (before.each c p i) (holds.each c p i);
+  each = λ c p i. began-chunk image written chunk c p i fits ∙ chosen-synced choice base calls chunk c p i (first_bytes written c p i) (first_bytes image c p i) (before.each c p i) (holds.each c p i);
 }
 holds-image_after base written image calls choice Passed fits before holds = record { each = λ c p i. holds.each c p i ∙ chosen-passed choice base calls c p i }
 
 -- calls that left nothing change neither
-pub holds-passes : (base chunks : List (List ℕ)) (n : ℕ) (calls : List Call) → Holds chunks (after base calls) → Holds chunks (after base (passes n calls))
-unfolding after
+pub holds-passes : (base chunks : List (List ℕ)) (n : ℕ) (calls : List Call) → ChunksHold chunks (bytes_after base calls) → ChunksHold chunks (bytes_after base (passes n calls))
+unfolding bytes_after
 holds-passes base chunks zero calls holds = holds
 holds-passes base chunks (suc n) calls holds =
     let rest = holds-passes base chunks n calls holds in
@@ -221,5 +221,5 @@ pub chosen-passes : (choice : Choice) (base : List (List ℕ)) (n : ℕ) (calls 
 chosen-passes choice base zero calls c p i = refl
 chosen-passes choice base (suc n) calls c p i = sym (chosen-passed choice base (passes n calls) c p i) ∙ chosen-passes choice base n calls c p i
 
-pub holds-passes-chosen : (choice : Choice) (base chunks : List (List ℕ)) (n : ℕ) (calls : List Call) → Holds chunks (chosen choice base calls) → Holds chunks (chosen choice base (passes n calls))
+pub holds-passes-chosen : (choice : Choice) (base chunks : List (List ℕ)) (n : ℕ) (calls : List Call) → ChunksHold chunks (chosen choice base calls) → ChunksHold chunks (chosen choice base (passes n calls))
 holds-passes-chosen choice base chunks n calls holds = record { each = λ c p i. holds.each c p i ∙ sym (chosen-passes choice base n calls c p i) }

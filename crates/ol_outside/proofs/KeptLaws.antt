@@ -2,7 +2,7 @@
 use Rattle.std.proofs.Common.{◌≡◌, ℕ, zero, suc, ◌+◌, ◌<◌, List, [], ◌∷◌, length, get_or, take, drop, fold, sym, ◌∙◌, ap, subst}
 use Rattle.std.proofs.lemmas.List.{take-append-drop}
 use Rattle.std.proofs.lemmas.List.Sums.{fold_more, fold-append}
-use Rattle.ol_outside.specs.Disk.{Call}
+use Rattle.ol_ports.specs.Disk.{Call}
 use Rattle.ol_outside.specs.KeptCalls.{call_of, passes, after_kept, kept_calls, FitsIn, AllFitIn}
 use Rattle.ol_outside.specs.declared.kept_calls.Kept.{Kept}
 

@@ -2,7 +2,8 @@
 use Rattle.std.proofs.Common.{◌≡◌, ℕ, zero, suc, ◌+◌, ◌^◌, ◌<◌, List, [], ◌∷◌, ◌++◌, length, get_or, refl, ap, sym, ◌∙◌, arith, length-append, append_assoc}
 use Rattle.std.proofs.Math.ListN.{set}
 use Rattle.std.proofs.lemmas.List.{append-nil}
-use Rattle.ol_outside.specs.Drive.{append_last, stream, BlocksFit, last_length}
+use Rattle.ol_ports.specs.Drive.{append_last, blocks_in_order}
+use Rattle.ol_outside.specs.Volumes.{BlocksFit, last_length}
 
 -- the last volume is replaced by itself with the block
 pub set-append_last : (volumes : List (List (List ℕ))) (last : ℕ) (volume : List (List ℕ)) (block : List ℕ) → last + 1 ≡ length volumes → volume ≡ get_or volumes last [] ++ block ∷ [] → set volumes last volume ≡ append_last volumes block
@@ -14,18 +15,18 @@ set-append_last (v ∷ w ∷ volumes) (suc last) volume block at is =
     ap (λ (l : List (List (List ℕ))). v ∷ l) (set-append_last (w ∷ volumes) last volume block (omega arith) is)
 
 -- the drive's stream grows by the block
-pub stream-append_last : (volumes : List (List (List ℕ))) (block : List ℕ) → stream (append_last volumes block) ≡ stream volumes ++ block ∷ []
+pub stream-append_last : (volumes : List (List (List ℕ))) (block : List ℕ) → blocks_in_order (append_last volumes block) ≡ blocks_in_order volumes ++ block ∷ []
 stream-append_last [] block = refl
 stream-append_last (v ∷ []) block =
     append-nil (v ++ block ∷ []) ∙ ap (λ (l : List (List ℕ)). l ++ block ∷ []) (sym (append-nil v))
 stream-append_last (v ∷ w ∷ volumes) block =
     ap (λ (l : List (List ℕ)). v ++ l) (stream-append_last (w ∷ volumes) block)
-    ∙ sym (append_assoc v (stream (w ∷ volumes)) (block ∷ []))
+    ∙ sym (append_assoc v (blocks_in_order (w ∷ volumes)) (block ∷ []))
 
 -- so its length grows by one
-pub length-stream-append_last : (volumes : List (List (List ℕ))) (block : List ℕ) → length (stream (append_last volumes block)) ≡ length (stream volumes) + 1
+pub length-stream-append_last : (volumes : List (List (List ℕ))) (block : List ℕ) → length (blocks_in_order (append_last volumes block)) ≡ length (blocks_in_order volumes) + 1
 length-stream-append_last volumes block =
-    ap length (stream-append_last volumes block) ∙ length-append (stream volumes) (block ∷ [])
+    ap length (stream-append_last volumes block) ∙ length-append (blocks_in_order volumes) (block ∷ [])
 
 -- and so does its last volume
 pub last_length-append_last : (volumes : List (List (List ℕ))) (block : List ℕ) → last_length (append_last volumes block) ≡ last_length volumes + 1

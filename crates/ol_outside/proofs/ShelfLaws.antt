@@ -2,8 +2,8 @@
 use Rattle.std.proofs.Common.{◌≡◌, ℕ, zero, suc, ◌^◌, ◌<◌, Bool, true, false, if◌then◌else◌, List, [], ◌∷◌, ◌++◌, Vec, Global, length, map, get_or, replicate, sym, ap, subst, ◌∙◌, arith}
 use Rattle.std.proofs.Math.ListN.{set}
 use Rattle.std.proofs.lemmas.List.{map-set, map-append, get_or-map, length-map}
-use Rattle.ol_outside.specs.Drive.{BlocksFit}
-use Rattle.ol_outside.specs.Shelf.{VolumesFit}
+use Rattle.ol_outside.specs.Volumes.{BlocksFit}
+use Rattle.ol_outside.specs.Volumes.{VolumesFit}
 use Rattle.ol_outside.proofs.LastVolume.{blocks-fit-append}
 
 abbrev pub blocks_of : Vec (List ℕ) Global → List (List ℕ)

@@ -1,7 +1,7 @@
 -- The bytes of chunks that stand in memory, each chunk's pages laid end to end.
 use Rattle.std.specs.Prelude.{ℕ, ◌+◌, ◌*◌, ◌≤◌, ◌≡◌, List, [], ◌++◌, length, map, take, drop, replicate, slice_set}
 use Rattle.std.proofs.Common.{get_or}
-use Rattle.ol_outside.specs.Disk.{Bytes, began}
+use Rattle.ol_ports.specs.Disk.{Bytes, first_bytes}
 
 -- the bytes of one chunk, none for a chunk that is not there
 abbrev pub chunk_bytes : List (List ℕ) → ℕ → List ℕ
@@ -32,5 +32,5 @@ abbrev pub HasPage : List (List ℕ) → ℕ → ℕ → Type 0
 HasPage chunks c page = 2048 * page + 2048 ≤ length (chunk_bytes chunks c)
 
 -- the chunks hold these bytes
-pub record Holds (chunks : List (List ℕ)) (d : Bytes) : Type 0 where
-  pub each : (c p i : ℕ) → began chunks c p i ≡ d c p i
+pub record ChunksHold (chunks : List (List ℕ)) (d : Bytes) : Type 0 where
+  pub each : (c p i : ℕ) → first_bytes chunks c p i ≡ d c p i

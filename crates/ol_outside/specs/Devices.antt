@@ -1,12 +1,12 @@
 -- What contracts see of the devices in memory.
-use Rattle.std.specs.Prelude.{ℕ, ◌-◌, ◌^◌, ◌≤◌, ◌≡◌, ◌⊎◌, min, List, [], length, true, false, replicate, slice_index}
-use Rattle.ol_outside.specs.declared.drive.Mounted.{Mounted}
-use Rattle.ol_outside.specs.declared.drive.Mounted.TheVariants.{Volume, NoMore, Failed as MountFailed}
-use Rattle.ol_outside.specs.declared.drive.Wrote.{Wrote}
-use Rattle.ol_outside.specs.declared.drive.Wrote.TheVariants.{Done, EndOfVolume, Failed as WriteFailed}
-use Rattle.ol_outside.specs.Disk.{Past, Passed, moments, with_call}
-use Rattle.ol_outside.specs.Drive.{Tape}
-use Rattle.ol_outside.specs.Faults.{FaultState, CountsCall, no_calls}
+use Rattle.std.specs.Prelude.{ℕ, ◌-◌, ◌^◌, ◌≤◌, ◌≡◌, ◌⊎◌, min, List, [], length, Result, Ok, Err, true, false, replicate, slice_index}
+use Rattle.ol_ports.specs.declared.drive.Mounted.{Mounted}
+use Rattle.ol_ports.specs.declared.drive.Mounted.TheVariants.{Volume, NoMore, Failed as MountFailed}
+use Rattle.ol_ports.specs.declared.drive.Wrote.{Wrote}
+use Rattle.ol_ports.specs.declared.drive.Wrote.TheVariants.{Done, EndOfVolume, Failed as WriteFailed}
+use Rattle.ol_ports.specs.Disk.{Past, Passed, Wrote as DiskWrote, moments, with_call}
+use Rattle.ol_ports.specs.Drive.{Tape}
+use Rattle.ol_outside.specs.Faults.{FaultState, CountsCall, after_call, after_refusal, next_fails, no_calls}
 
 pub record SourceState : Type 0 where
   -- the bytes that are left
@@ -50,8 +50,8 @@ pub record DiskState : Type 0 where
   pub faults : FaultState
 
 -- the pages of a chunk, which are a u32
-abbrev pub pages_of : DiskState → ℕ → ℕ
-pages_of s c = min (slice_index s.sizes c) (2 ^ 32 - 1)
+abbrev pub disk_pages : DiskState → ℕ → ℕ
+disk_pages s c = min (slice_index s.sizes c) (2 ^ 32 - 1)
 
 -- how often a chunk has failed
 abbrev pub chunk_faults : DiskState → ℕ → ℕ
@@ -73,3 +73,17 @@ fresh_disk base sizes failing = record {
 -- a call that left nothing; it has no number where more than a u64 counts have left nothing
 abbrev pub LeavesNothing : Past → Past → Type 0
 LeavesNothing old new = (new ≡ with_call old Passed) ⊎ ((2 ^ 64 - 1 ≤ moments old) × (new ≡ old))
+
+-- how a write ends: done; or listed, and done all the same; or refused memory, which leaves nothing and is counted
+abbrev pub EndsWrite : {E : Type 0} → DiskState → DiskState → ℕ → ℕ → ℕ → List ℕ → Result Unit E → Type 0
+EndsWrite old new chunk page offset bytes (Ok u) =
+    (next_fails old.faults ≡ false) × (new.past ≡ with_call old.past (DiskWrote chunk page offset bytes)) × (new.faults ≡ after_call false old.faults)
+EndsWrite old new chunk page offset bytes (Err e) =
+    ((next_fails old.faults ≡ true) × (new.past ≡ with_call old.past (DiskWrote chunk page offset bytes)) × (new.faults ≡ after_call true old.faults))
+    ⊎ (LeavesNothing old.past new.past × (new.faults ≡ after_refusal (after_call (next_fails old.faults) old.faults)))
+
+-- what contracts see of a shelf in memory
+pub record ShelfState : Type 0 where
+  -- of each drive its volumes, each the list of its blocks
+  pub tapes : List (List (List (List ℕ)))
+  pub faults : FaultState

@@ -1,7 +1,7 @@
 -- The faults of a device in memory: the calls that were to fail, and the memory that was refused.
 use Rattle.std.specs.Prelude.{ℕ, zero, suc, ◌+◌, ◌-◌, ◌^◌, ◌==◌, ◌≡◌, ◌⊎◌, nat_lt, ◌&&◌, Bool, true, false, if◌then◌else◌, min, List}
 use Rattle.std.specs.List.{list_any}
-use Rattle.ol_outside.specs.Causes.{risen}
+use Rattle.ol_ports.specs.Causes.{risen}
 
 pub record FaultState : Type 0 where
   -- the numbers of the calls that are to fail, from 1

@@ -1,7 +1,7 @@
 -- The calls that a disk in memory keeps, and how they stand for those that it was asked.
 use Rattle.std.specs.Prelude.{ℕ, zero, suc, ◌+◌, ◌-◌, ◌*◌, ◌^◌, ◌<◌, ◌≤◌, ◌≡◌, ◌⊎◌, List, [], ◌∷◌, length, fold, map, min}
-use Rattle.ol_outside.specs.Chunks.{lengths, HasPage, Holds}
-use Rattle.ol_outside.specs.Disk.{Call, Wrote, Synced, Passed, after}
+use Rattle.ol_outside.specs.Chunks.{lengths, HasPage, ChunksHold}
+use Rattle.ol_ports.specs.Disk.{Call, Wrote, Synced, Passed, bytes_after}
 use Rattle.ol_outside.specs.declared.kept_calls.Order.{Order}
 use Rattle.ol_outside.specs.declared.kept_calls.Order.TheVariants.{Write, Sync}
 use Rattle.ol_outside.specs.declared.kept_calls.Kept.{Kept}
@@ -45,7 +45,7 @@ AllFitIn chunks (call ∷ calls) = FitsIn chunks call × AllFitIn chunks calls
 
 -- the fields of a disk in memory agree: its bytes are those that it began with after its calls
 pub record Agrees (base bytes : List (List ℕ)) (calls : List Call) (sizes : List ℕ) (moment : ℕ) : Type 0 where
-  pub holds : Holds bytes (after base calls)
+  pub holds : ChunksHold bytes (bytes_after base calls)
   pub base_sized : lengths base ≡ map (λ pages. 2048 * pages) sizes
   pub bytes_sized : lengths bytes ≡ lengths base
   pub fits : AllFitIn base calls

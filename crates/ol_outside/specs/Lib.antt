@@ -1,10 +1,6 @@
-pub mod Causes
 pub mod Chunks
 pub mod Devices
-pub mod Disk
-pub mod Drive
 pub mod Faults
 pub mod Images
 pub mod KeptCalls
-pub mod Shelf
-pub mod Torn
+pub mod Volumes

@@ -1,7 +1,7 @@
 //! The faults of a device in memory, which the devices share.
 
 ghost use Rattle.std.specs.Prelude.{◌≡◌, ◌≤◌, IfOk, IsTrue};
-ghost use Rattle.ol_outside.specs.Causes.{Rose};
+ghost use Rattle.ol_ports.specs.Causes.{Rose};
 ghost use Rattle.ol_outside.specs.Faults.{no_calls, next_fails, after_call, after_refusal, faults_in_all};
 
 use crate::NoMemory;

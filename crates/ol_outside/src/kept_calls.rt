@@ -1,7 +1,7 @@
 //! The calls that a disk in memory keeps, to make what a stop within one of them may leave.
 
 ghost use Rattle.std.specs.Prelude.{◌≡◌, ◌<◌, ◌≤◌, ◌+◌, ◌-◌, ◌^◌, ◌∷◌, List, ℕ, OnOk, OnErr, length};
-ghost use Rattle.ol_outside.specs.Disk.{Wrote, Synced};
+ghost use Rattle.ol_ports.specs.Disk.{Wrote, Synced};
 ghost use Rattle.ol_outside.specs.KeptCalls.{calls_of, call_of, PassesOver};
 
 use crate::NoMemory;

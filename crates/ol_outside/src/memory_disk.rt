@@ -1,13 +1,13 @@
 //! A disk in memory, which fails where it is told to, and what a stop may leave of it.
 
 ghost use Rattle.std.specs.Prelude.{◌≡◌, ◌∷◌, [], map, ◌<◌, ◌≤◌, ◌+◌, ◌*◌, ◌-◌, ◌^◌, ◌⊎◌, ℕ, List, length, min, true, false, IfOk, OnOk, OnErr, is_err, slice_index, slice_set, if◌then◌else◌, ◌==◌, replicate};
-ghost use Rattle.ol_outside.specs.Causes.{HasChunkCause, risen};
+ghost use Rattle.ol_ports.specs.Causes.{HasChunkCause, risen};
 ghost use Rattle.ol_outside.specs.Chunks.{lengths, zero_chunks, HasPage};
-ghost use Rattle.ol_outside.specs.Devices.{DiskState, pages_of, chunk_faults, last_moment, fresh_disk, LeavesNothing};
-ghost use Rattle.ol_outside.specs.Disk.{Past, Bytes, seen, Rest, Left, Shows, Writes, Syncs, Wrote, Synced, with_call, moments};
+ghost use Rattle.ol_outside.specs.Devices.{DiskState, EndsWrite, disk_pages, chunk_faults, last_moment, fresh_disk, LeavesNothing};
+ghost use Rattle.ol_ports.specs.Disk.{Past, Bytes, seen, Rest, Left, page_list, Writes, Syncs, Wrote, Synced, moments};
 ghost use Rattle.ol_outside.specs.Faults.{next_fails, after_call, faults_in_all, CountsCall};
 ghost use Rattle.ol_outside.specs.Images.{chosen, stopped_within};
-ghost use Rattle.ol_outside.specs.KeptCalls.{calls_of, PassesOver, Agrees};
+ghost use Rattle.ol_outside.specs.KeptCalls.{calls_of, passes, PassesOver, Agrees};
 
 use crate::chunks::Chunks;
 use crate::faults::Faults;
@@ -84,12 +84,11 @@ impl MemoryDisk {
     }
 
     /// The disk that a stop within the call of number `moment` may leave, with the bytes of the choice
-    /// wherever the stop may leave any. It is durable, has no call and no fault, and no call of it is to
+    /// wherever the stop may leave any; moment 0 is before the first call. It is durable, has no call and no fault, and no call of it is to
     /// fail. A stop within a sync is one before it; a stop within a write may leave any bytes in its range.
     ///
     /// `NoMemory` where memory for the new disk is refused.
     pub fn left(&self, moment: u64, choice: Choice) -> Result<MemoryDisk, NoMemory>
-        requires above { 0 < moment }
         requires made { moment ≤ last_moment self.now }
         requires below { moment < 2 ^ 64 - 1 }
         ensures fresh { IfOk result (λ disk. disk ≡ fresh_disk disk.past.base self.now.sizes []) }
@@ -113,18 +112,18 @@ impl MemoryDisk {
         begin(self.alloc, bytes, &self.sizes, &[])
     }
 
-    /// Loses a chunk: its bytes are zero from then on. The disk begins anew, durable and with no call;
-    /// all other bytes, the sizes and the faults are as before.
+    /// Loses a chunk: its bytes are zero from then on. The disk is durable, and its moments run on: what
+    /// the calls so far have left is what it begins with from now on. All other bytes, the sizes and the
+    /// faults are as before.
     pub fn clear(&mut self, chunk: u8)
-        requires { 0 < pages_of self.old chunk }
+        requires { 0 < disk_pages self.old chunk }
         ensures bytes { (c p i : ℕ) → seen self.new.past c p i ≡ (if c == chunk then 0 else seen self.old.past c p i) }
-        ensures state { self.new ≡ record self.old { past = record { base = self.new.past.base; calls = [] } } }
+        ensures state { self.new ≡ record self.old { past = record { base = self.new.past.base; calls = passes (last_moment self.old) [] } } }
     {
         self.bytes.zero(chunk);
         self.base.take_all(&self.bytes);
         self.kept.clear();
-        self.passed = 0;
-        self.moment = 0;
+        self.passed = self.moment;
     }
 }
 
@@ -135,13 +134,13 @@ impl Disk for MemoryDisk {
 
     ghost past = { λ d. d.past };
 
-    ghost sizes = { pages_of };
+    ghost sizes = { disk_pages };
 
     ghost fault_counts = { chunk_faults };
 
     ghost moment = { last_moment };
 
-    ghost counted = { λ d told below. Prim.omega arith };
+    ghost counted = { λ d told. Prim.omega arith };
 
     ghost bounded = { λ d chunk. Prim.omega arith };
 
@@ -157,11 +156,11 @@ impl Disk for MemoryDisk {
     ///
     /// `Failed` where the call's number is listed, and nowhere else; `buf` is then as before.
     fn read(&mut self, chunk: u8, page: u32, buf: &mut [u8]) -> Result<(), Failed>
-        requires page { page < pages_of self.old chunk }
+        requires page { page < disk_pages self.old chunk }
         requires buf { length buf.old ≡ 2048 }
-        ensures bytes { Unit {0} → OnOk result (Shows (seen self.old.past) chunk page buf.new) }
+        ensures bytes { Unit {0} → OnOk result (buf.new ≡ page_list (seen self.old.past) chunk page) }
         ensures past { Unit {0} → self.new.past ≡ self.old.past }
-        ensures sizes { pages_of self.new ≡ pages_of self.old }
+        ensures sizes { disk_pages self.new ≡ disk_pages self.old }
         ensures moment { last_moment self.new ≡ last_moment self.old }
         ensures cause { HasChunkCause chunk (chunk_faults self.old) (chunk_faults self.new) result }
 
@@ -180,19 +179,17 @@ impl Disk for MemoryDisk {
     /// Writes bytes into a page, from an offset on.
     ///
     /// `Failed` where the call's number is listed or memory is refused, and nowhere else. A call that is
-    /// listed writes its bytes all the same, unless memory to keep it is refused too. One that is not, but
-    /// is refused memory, leaves all as it was, and is counted in `starved`.
+    /// listed writes its bytes all the same, unless memory to keep it is refused too. One that is refused
+    /// memory leaves all as it was, and is counted in `starved`.
     fn write_at(&mut self, chunk: u8, page: u32, offset: u16, bytes: &[u8]) -> Result<(), Failed>
-        requires page { page < pages_of self.old chunk }
+        requires page { page < disk_pages self.old chunk }
         requires range { offset + length bytes.now ≤ 2048 }
         ensures past { Unit {0} → Writes self.old.past self.new.past chunk page offset bytes.now result }
-        ensures sizes { pages_of self.new ≡ pages_of self.old }
+        ensures sizes { disk_pages self.new ≡ disk_pages self.old }
         ensures moment { last_moment self.new ≡ risen (last_moment self.old) }
         ensures cause { HasChunkCause chunk (chunk_faults self.old) (chunk_faults self.new) result }
 
-        ensures listed { next_fails self.old.faults ≡ true → (self.new.past ≡ with_call self.old.past (Wrote chunk page offset bytes.now)) ⊎ LeavesNothing self.old.past self.new.past }
-        ensures refused { next_fails self.old.faults ≡ false → OnErr result (LeavesNothing self.old.past self.new.past) }
-        ensures counted { CountsCall self.old.faults (is_err result) self.new.faults }
+        ensures ends { EndsWrite self.old self.new chunk page offset bytes.now result }
     {
         self.moment = self.moment.saturating_add(1);
         let listed = self.faults.fails();
@@ -206,12 +203,12 @@ impl Disk for MemoryDisk {
             offset,
             bytes,
         );
-        if listed {
+        if written.is_err() {
+            self.faults.starve();
             count_fault(&mut self.counts, chunk);
             return Err(Failed);
         }
-        if written.is_err() {
-            self.faults.starve();
+        if listed {
             count_fault(&mut self.counts, chunk);
             return Err(Failed);
         }
@@ -223,9 +220,9 @@ impl Disk for MemoryDisk {
     /// `Failed` where the call's number is listed or memory is refused, and nowhere else; a refusal is
     /// counted in `starved`. Nothing is changed then.
     fn sync(&mut self, chunk: u8) -> Result<(), Failed>
-        requires { 0 < pages_of self.old chunk }
+        requires { 0 < disk_pages self.old chunk }
         ensures past { Unit {0} → Syncs self.old.past self.new.past chunk result }
-        ensures sizes { pages_of self.new ≡ pages_of self.old }
+        ensures sizes { disk_pages self.new ≡ disk_pages self.old }
         ensures moment { last_moment self.new ≡ risen (last_moment self.old) }
         ensures cause { HasChunkCause chunk (chunk_faults self.old) (chunk_faults self.new) result }
 

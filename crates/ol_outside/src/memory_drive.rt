@@ -1,12 +1,13 @@
 //! A tape drive in memory, which fails where it is told to, and the volumes that it leaves.
 
 ghost use Rattle.std.specs.Prelude.{◌≡◌, ◌<◌, ◌≤◌, ◌+◌, ◌^◌, ◌↔◌, [], ◌∷◌, ◌++◌, length, Some, IsTrue, IfOk, OnOk, OnErr, is_err, slice_get};
-ghost use Rattle.ol_outside.specs.Causes.{HasCause, Rose};
-ghost use Rattle.ol_outside.specs.declared.drive.Mounted.TheVariants.{Failed as MountFailed};
-ghost use Rattle.ol_outside.specs.declared.drive.Wrote.TheVariants.{Failed as WriteFailed};
-ghost use Rattle.ol_outside.specs.Drive.{Mounts, Writes, Syncs, fresh, spoilt, stream, append_last, BlocksFit, last_length};
+ghost use Rattle.ol_ports.specs.Causes.{HasCause, Rose};
+ghost use Rattle.ol_ports.specs.declared.drive.Mounted.TheVariants.{Failed as MountFailed};
+ghost use Rattle.ol_ports.specs.declared.drive.Wrote.TheVariants.{Failed as WriteFailed};
+ghost use Rattle.ol_ports.specs.Drive.{Mounts, Writes, Syncs, without_room, blocks_in_order, append_last};
+ghost use Rattle.ol_outside.specs.Volumes.{fresh, BlocksFit, last_length};
 ghost use Rattle.std.proofs.Common.{get_or};
-ghost use Rattle.ol_outside.specs.Shelf.{flipped_in};
+ghost use Rattle.ol_outside.specs.Volumes.{flipped_in};
 ghost use Rattle.ol_outside.specs.Faults.{no_calls, next_fails, after_call, faults_in_all};
 ghost use Rattle.ol_outside.specs.Devices.{CountsMount, CountsWrite};
 
@@ -24,7 +25,7 @@ pub struct Volumes {
 
 impl Model for Volumes {
     ghost use Rattle.std.specs.Prelude.{ℕ, List, map};
-    ghost use Rattle.ol_outside.specs.Drive.{BlocksFit};
+    ghost use Rattle.ol_outside.specs.Volumes.{BlocksFit};
 
     ghost Value = { List (List (List ℕ)) };
 
@@ -119,7 +120,7 @@ impl Volumes {
         ensures err { OnErr result (self.new ≡ self.old) }
 
         ensures volumes { length self.new ≡ length self.old }
-        ensures blocks { OnOk result (length (stream self.new) ≡ length (stream self.old) + 1) }
+        ensures blocks { OnOk result (length (blocks_in_order self.new) ≡ length (blocks_in_order self.old) + 1) }
         ensures last { OnOk result (last_length self.new ≡ last_length self.old + 1) }
     {
         let last = self.volumes.len() - 1;
@@ -149,7 +150,8 @@ pub struct MemoryDrive {
 impl Model for MemoryDrive {
     ghost use Rattle.std.specs.Prelude.{◌≡◌, ◌<◌, ◌+◌, ◌*◌, ◌^◌, Some, length, replicate};
     ghost use Rattle.ol_outside.specs.Devices.{DriveState};
-    ghost use Rattle.ol_outside.specs.Drive.{stream, last_length};
+    ghost use Rattle.ol_ports.specs.Drive.{blocks_in_order};
+    ghost use Rattle.ol_outside.specs.Volumes.{last_length};
 
     ghost Value = { DriveState };
 
@@ -165,7 +167,7 @@ impl Model for MemoryDrive {
     } };
 
     // The numbers of volumes and of blocks stay within their types.
-    ghost invariant = { λ d. (d.written ≡ length (stream d.volumes))
+    ghost invariant = { λ d. (d.written ≡ length (blocks_in_order d.volumes))
         × (length d.volumes + d.left < 2 ^ 32)
         × (last_length d.volumes + d.room < 2 ^ 32)
         × (d.written + (d.room + d.left * d.blocks) < 2 ^ 64) };
@@ -262,7 +264,7 @@ impl Drive for MemoryDrive {
         ensures cause { result ≡ WriteFailed → Rose self.old.faults.count self.new.faults.count }
         ensures kept { (result ≡ WriteFailed → ⊥) → self.new.faults.count ≡ self.old.faults.count }
 
-        ensures failed { result ≡ WriteFailed → self.new.tape ≡ spoilt self.old.tape }
+        ensures failed { result ≡ WriteFailed → self.new.tape ≡ without_room self.old.tape }
         ensures counted { CountsWrite self.old.faults result self.new.faults }
     {
         if self.room == 0 {

@@ -1,9 +1,11 @@
 //! A shelf in memory, which fails where it is told to.
 
 ghost use Rattle.std.specs.Prelude.{◌≡◌, ◌<◌, ◌≤◌, ◌+◌, ◌^◌, ◌↔◌, [], length, replicate, IfOk, OnOk, OnErr, is_err};
-ghost use Rattle.ol_outside.specs.Causes.{HasCause};
+ghost use Rattle.ol_ports.specs.Causes.{HasCause};
 ghost use Rattle.ol_outside.specs.Faults.{no_calls, next_fails, after_call, faults_in_all};
-ghost use Rattle.ol_outside.specs.Shelf.{ShelfState, volume_count, block_count, block_at, volumes_at, shape_of, HasVolume, HasBlock, with_volumes, with_flip};
+ghost use Rattle.ol_ports.specs.Shelf.{volume_count, block_count, block_at, volumes_at, shape_of, HasVolume, HasBlock};
+ghost use Rattle.ol_outside.specs.Volumes.{with_volumes, with_flip};
+ghost use Rattle.ol_outside.specs.Devices.{ShelfState};
 
 use crate::faults::Faults;
 use crate::{BLOCK_LENGTH, DRIVES, Failed, NoMemory, Shelf, Volumes};
@@ -20,7 +22,8 @@ pub struct MemoryShelf {
 
 impl Model for MemoryShelf {
     ghost use Rattle.std.specs.Prelude.{◌≡◌, length};
-    ghost use Rattle.ol_outside.specs.Shelf.{ShelfState, VolumesFit};
+    ghost use Rattle.ol_outside.specs.Volumes.{VolumesFit};
+    ghost use Rattle.ol_outside.specs.Devices.{ShelfState};
 
     ghost Value = { ShelfState };
 

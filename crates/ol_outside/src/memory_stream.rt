@@ -3,7 +3,7 @@
 ghost use Rattle.std.specs.Prelude.{◌≡◌, ◌<◌, [], length, drop, IfOk, OnErr, is_err};
 ghost use Rattle.std.specs.Io.{ReadsAtMost, WritesAtMost};
 ghost use Rattle.std.specs.Io.KnownBytes.{ReadConsumes, WriteAppends};
-ghost use Rattle.ol_outside.specs.Causes.{HasCause};
+ghost use Rattle.ol_ports.specs.Causes.{HasCause};
 ghost use Rattle.ol_outside.specs.Devices.{read_length};
 ghost use Rattle.ol_outside.specs.Faults.{no_calls, next_fails, after_call, faults_in_all, CountsCall};
 

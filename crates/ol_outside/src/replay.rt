@@ -1,8 +1,8 @@
 //! What a stop may leave of a disk in memory, made from the calls that it keeps.
 
 ghost use Rattle.std.specs.Prelude.{◌≡◌, ◌<◌, ◌≤◌, ◌+◌, ◌*◌, ◌-◌, ◌^◌, ℕ, List, IfOk, length, take};
-ghost use Rattle.ol_outside.specs.Disk.{Call};
-ghost use Rattle.ol_outside.specs.Chunks.{lengths, HasPage, Holds};
+ghost use Rattle.ol_ports.specs.Disk.{Call};
+ghost use Rattle.ol_outside.specs.Chunks.{lengths, HasPage, ChunksHold};
 ghost use Rattle.ol_outside.specs.Images.{chosen, redone, torn_image, image_after, stopped_within, is_after_stop, SameImages};
 ghost use Rattle.ol_outside.specs.KeptCalls.{call_of, kept_calls, calls_of, FitsIn, AllFitIn};
 
@@ -19,7 +19,7 @@ pub(crate) fn image(
     choice: Choice,
 ) -> Result<Chunks, NoMemory>
     requires { AllFitIn base.now (kept_calls kept.now) }
-    ensures image { IfOk result (λ image. Holds image (chosen choice base.now (kept_calls kept.now))) }
+    ensures image { IfOk result (λ image. ChunksHold image (chosen choice base.now (kept_calls kept.now))) }
     ensures lengths { IfOk result (λ image. lengths image ≡ lengths base.now) }
 {
     let mut written = base.copy(alloc)?;
@@ -31,8 +31,7 @@ pub(crate) fn image(
 /// How many of the calls that are kept have left something, or part of it, at a stop within the call of
 /// this number.
 pub(crate) fn stopped_at(kept: &[Kept], moment: u64) -> usize
-    requires above { 0 < moment }
-    requires below { moment < 2 ^ 64 - 1 }
+    requires { moment < 2 ^ 64 - 1 }
     ensures within { result ≤ length kept.now }
     ensures same { (passed : ℕ) → moment ≤ length (calls_of kept.now passed) → SameImages (kept_calls (take result kept.now)) (stopped_within (calls_of kept.now passed) moment) }
 {
@@ -61,7 +60,7 @@ fn is_after_stop(order: &Order, number: u64, moment: u64) -> bool
 fn replay(kept: &[Kept], written: &mut Chunks, image: &mut Chunks, choice: Choice)
     requires same { image.old ≡ written.old }
     requires fits { AllFitIn written.old (kept_calls kept.now) }
-    ensures image { Holds image.new (chosen choice written.old (kept_calls kept.now)) }
+    ensures image { ChunksHold image.new (chosen choice written.old (kept_calls kept.now)) }
     ensures lengths { lengths image.new ≡ lengths image.old }
 {
     for call in kept {

@@ -8,7 +8,7 @@ use Rattle.std.proofs.lemmas.List.{drop-drop, drop_at, ext_get_or, length-append
 use Rattle.std.proofs.lemmas.Nat.{from_be_bytes-to_be_bytes_2, from_be_bytes-to_be_bytes_8}
 use Rattle.ol_bytes.specs.Numbers.{number_in, numbers_bytes}
 use Rattle.ol_bytes.proofs.Numbers.{length-numbers_bytes, number_at}
-use Rattle.ol_reserve.specs.Anchor.{IsAnchor, anchor_bytes, front_bytes, is_known, is_number, known_of, numbers_of}
+use Rattle.ol_reserve.specs.Anchor.{IsAnchor, anchor_bytes, front_bytes, is_known, is_number, known_of, anchor_numbers}
 use Rattle.ol_reserve.specs.Pair.{serial_in}
 use Rattle.ol_reserve.specs.declared.anchor.Anchor.{Anchor}
 
@@ -28,7 +28,7 @@ behind_down a = numbers_bytes (known_of a.zero a.one) ++ (to_be_bytes w16 (lengt
 abbrev pub behind_numbers : Anchor → List ℕ
 behind_numbers a = replicate 56 0 ++ (a.states ++ (numbers_bytes a.down_at ++ behind_down a))
 
-nested : (gate : ℕ) (a : Anchor) → anchor_bytes gate a ≡ head_bytes gate a ++ (numbers_bytes (numbers_of a) ++ behind_numbers a)
+nested : (gate : ℕ) (a : Anchor) → anchor_bytes gate a ≡ head_bytes gate a ++ (numbers_bytes (anchor_numbers a) ++ behind_numbers a)
 unfolding anchor_bytes front_bytes
 nested gate a = simp append_assoc
 
@@ -38,7 +38,7 @@ length-anchor_bytes gate a is =
     ∙ simp length-append
     (omega (
       arith,
-      length-numbers_bytes (numbers_of a),
+      length-numbers_bytes (anchor_numbers a),
       length-numbers_bytes a.down_at,
       length-numbers_bytes (known_of a.zero a.one),
       length-known_of a.zero a.one (is.each.3 ∙ sym is.each.2),
@@ -53,8 +53,8 @@ pub gate_back : (gate : ℕ) (a : Anchor) → get_or (anchor_bytes gate a) 0 0 �
 unfolding anchor_bytes front_bytes
 gate_back gate a = refl
 
-numbers_behind : (gate : ℕ) (a : Anchor) → drop 8 (anchor_bytes gate a) ≡ numbers_bytes (numbers_of a) ++ behind_numbers a
-numbers_behind gate a = ap (λ (l : List ℕ). drop 8 l) (nested gate a) ∙ drop_at (head_bytes gate a) (numbers_bytes (numbers_of a) ++ behind_numbers a) 8 refl
+numbers_behind : (gate : ℕ) (a : Anchor) → drop 8 (anchor_bytes gate a) ≡ numbers_bytes (anchor_numbers a) ++ behind_numbers a
+numbers_behind gate a = ap (λ (l : List ℕ). drop 8 l) (nested gate a) ∙ drop_at (head_bytes gate a) (numbers_bytes (anchor_numbers a) ++ behind_numbers a) 8 refl
 
 serial_small : (a : Anchor) → IsAnchor a → a.serial < 2 ^ 64
 serial_small a is = let both = and_parts (is_number a.serial) _ is.numbers in omega (arith, leb-true a.serial (2 ^ 62) both.0)
@@ -62,7 +62,7 @@ serial_small a is = let both = and_parts (is_number a.serial) _ is.numbers in om
 pub serial_back : (gate : ℕ) (a : Anchor) → IsAnchor a → serial_in (anchor_bytes gate a) ≡ a.serial
 serial_back gate a is =
     ap (λ (l : List ℕ). from_be_bytes w64 (take 8 l)) (numbers_behind gate a)
-    ∙ ap (λ (l : List ℕ). from_be_bytes w64 l) (number_at (numbers_of a) (behind_numbers a) 0 (omega arith))
+    ∙ ap (λ (l : List ℕ). from_be_bytes w64 l) (number_at (anchor_numbers a) (behind_numbers a) 0 (omega arith))
     ∙ from_be_bytes-to_be_bytes_8 a.serial (serial_small a is)
 
 -- ---- the fields, each found again
@@ -76,7 +76,7 @@ further n m b front rest is long = sym (drop-drop m n b) ∙ behind front rest m
 
 pub record FieldsIn (a : Anchor) (b : List ℕ) : Type 0 where
   pub state : get_or b 4 0 ≡ a.state
-  pub numbers : drop 8 b ≡ numbers_bytes (numbers_of a) ++ behind_numbers a
+  pub numbers : drop 8 b ≡ numbers_bytes (anchor_numbers a) ++ behind_numbers a
   pub states : drop 128 b ≡ a.states ++ (numbers_bytes a.down_at ++ behind_down a)
   pub downs : drop 144 b ≡ numbers_bytes a.down_at ++ behind_down a
   pub known : drop 272 b ≡ behind_down a
@@ -84,8 +84,8 @@ pub record FieldsIn (a : Anchor) (b : List ℕ) : Type 0 where
 
 pub fields_in : (gate : ℕ) (a : Anchor) (b : List ℕ) → IsAnchor a → b ≡ anchor_bytes gate a → FieldsIn a b
 fields_in gate a b is e =
-    let d8 : drop 8 b ≡ numbers_bytes (numbers_of a) ++ behind_numbers a = ap (λ (l : List ℕ). drop 8 l) e ∙ numbers_behind gate a in
-    let d72 : drop 72 b ≡ behind_numbers a = further 8 64 b (numbers_bytes (numbers_of a)) (behind_numbers a) d8 (length-numbers_bytes (numbers_of a)) in
+    let d8 : drop 8 b ≡ numbers_bytes (anchor_numbers a) ++ behind_numbers a = ap (λ (l : List ℕ). drop 8 l) e ∙ numbers_behind gate a in
+    let d72 : drop 72 b ≡ behind_numbers a = further 8 64 b (numbers_bytes (anchor_numbers a)) (behind_numbers a) d8 (length-numbers_bytes (anchor_numbers a)) in
     let d128 = further 72 56 b (replicate 56 0) (a.states ++ (numbers_bytes a.down_at ++ behind_down a)) d72 refl in
     let d144 = further 128 16 b a.states (numbers_bytes a.down_at ++ behind_down a) d128 is.each.0 in
     let d272 = further 144 128 b (numbers_bytes a.down_at) (behind_down a) d144 (length-numbers_bytes a.down_at ∙ ap (λ (n : ℕ). 8 * n) is.each.1) in
@@ -168,36 +168,38 @@ pair_at known place k = (get_or known (4 * k + place) 0, get_or known (4 * k + p
 pair_is : (x y : ℕ) (p : ℕ × ℕ) → x ≡ p.0 → y ≡ p.1 → ◌≡◌ {A = ℕ × ℕ} (x, y) p
 pair_is x y p e f = ap (λ (u : ℕ). let r : ℕ × ℕ = (u, y) in r) e ∙ ap (λ (v : ℕ). let r : ℕ × ℕ = (p.0, v) in r) f
 
+-- the levels of a space among them
+pub zero_at : (a : Anchor) → IsAnchor a → (k : ℕ) → k < 16 → pair_at (known_of a.zero a.one) 0 k ≡ get_or a.zero k (0, 0)
+zero_at a is k lt =
+    let all = known_of a.zero a.one in
+    let at = known_of-at a.zero a.one k (omega (arith, is.each.2)) (is.each.3 ∙ sym is.each.2) in
+    pair_is (get_or all (4 * k + 0) 0) (get_or all (4 * k + 0 + 1) 0) (get_or a.zero k (0, 0))
+    (ap (λ (i : ℕ). get_or all i 0) (let i : 4 * k + 0 ≡ 4 * k = omega arith in i) ∙ at.0)
+    (ap (λ (i : ℕ). get_or all i 0) (let i : 4 * k + 0 + 1 ≡ 4 * k + 1 = omega arith in i) ∙ at.1)
+
+pub one_at : (a : Anchor) → IsAnchor a → (k : ℕ) → k < 16 → pair_at (known_of a.zero a.one) 2 k ≡ get_or a.one k (0, 0)
+one_at a is k lt =
+    let all = known_of a.zero a.one in
+    let at = known_of-at a.zero a.one k (omega (arith, is.each.2)) (is.each.3 ∙ sym is.each.2) in
+    pair_is (get_or all (4 * k + 2) 0) (get_or all (4 * k + 2 + 1) 0) (get_or a.one k (0, 0)) at.2
+    (ap (λ (i : ℕ). get_or all i 0) (let i : 4 * k + 2 + 1 ≡ 4 * k + 3 = omega arith in i) ∙ at.3)
+
 pub zero_back : (a : Anchor) (known : List ℕ) (levels : List (ℕ × ℕ)) → IsAnchor a → known ≡ known_of a.zero a.one → length levels ≡ 16 → ((k : ℕ) → k < 16 → get_or levels k (0, 0) ≡ pair_at known 0 k) → levels ≡ a.zero
 zero_back a known levels is e long each =
-    let none : ℕ × ℕ = (0, 0) in
-    let all = known_of a.zero a.one in
-    ext_get_or none levels a.zero (long ∙ sym is.each.2) (λ k lt.
-    let here : k < 16 = omega (arith, long) in
-    let at = known_of-at a.zero a.one k (omega (arith, is.each.2)) (is.each.3 ∙ sym is.each.2) in
-    each k here ∙ ap (λ (l : List ℕ). pair_at l 0 k) e
-    ∙ pair_is (get_or all (4 * k + 0) 0) (get_or all (4 * k + 0 + 1) 0) (get_or a.zero k none)
-    (ap (λ (i : ℕ). get_or all i 0) (let i : 4 * k + 0 ≡ 4 * k = omega arith in i) ∙ at.0)
-    (ap (λ (i : ℕ). get_or all i 0) (let i : 4 * k + 0 + 1 ≡ 4 * k + 1 = omega arith in i) ∙ at.1))
+    ext_get_or (0, 0) levels a.zero (long ∙ sym is.each.2) (λ k lt.
+    let here : k < 16 = omega (arith, long) in each k here ∙ ap (λ (l : List ℕ). pair_at l 0 k) e ∙ zero_at a is k here)
 
 pub one_back : (a : Anchor) (known : List ℕ) (levels : List (ℕ × ℕ)) → IsAnchor a → known ≡ known_of a.zero a.one → length levels ≡ 16 → ((k : ℕ) → k < 16 → get_or levels k (0, 0) ≡ pair_at known 2 k) → levels ≡ a.one
 one_back a known levels is e long each =
-    let none : ℕ × ℕ = (0, 0) in
-    let all = known_of a.zero a.one in
-    ext_get_or none levels a.one (long ∙ sym is.each.3) (λ k lt.
-    let here : k < 16 = omega (arith, long) in
-    let at = known_of-at a.zero a.one k (omega (arith, is.each.2)) (is.each.3 ∙ sym is.each.2) in
-    each k here ∙ ap (λ (l : List ℕ). pair_at l 2 k) e
-    ∙ pair_is (get_or all (4 * k + 2) 0) (get_or all (4 * k + 2 + 1) 0) (get_or a.one k none)
-    at.2
-    (ap (λ (i : ℕ). get_or all i 0) (let i : 4 * k + 2 + 1 ≡ 4 * k + 3 = omega arith in i) ∙ at.3))
+    ext_get_or (0, 0) levels a.one (long ∙ sym is.each.3) (λ k lt.
+    let here : k < 16 = omega (arith, long) in each k here ∙ ap (λ (l : List ℕ). pair_at l 2 k) e ∙ one_at a is k here)
 
 -- ---- an anchor whose fields are those of another
 
-pub same_anchor : (x a : Anchor) (n : List ℕ) → n ≡ numbers_of a → x.state ≡ a.state → x.serial ≡ get_or n 0 0 → x.incarnation ≡ get_or n 1 0 → x.position ≡ get_or n 2 0 → x.generation ≡ get_or n 3 0
+pub same_anchor : (x a : Anchor) (n : List ℕ) → n ≡ anchor_numbers a → x.state ≡ a.state → x.serial ≡ get_or n 0 0 → x.incarnation ≡ get_or n 1 0 → x.position ≡ get_or n 2 0 → x.generation ≡ get_or n 3 0
     → x.next_archive ≡ get_or n 4 0 → x.backed ≡ get_or n 5 0 → x.uniq ≡ get_or n 6 0 → x.need ≡ get_or n 7 0 → x.states ≡ a.states → x.down_at ≡ a.down_at → x.zero ≡ a.zero → x.one ≡ a.one → x.text ≡ a.text → x ≡ a
 same_anchor x a n e state n0 n1 n2 n3 n4 n5 n6 n7 states downs zeros ones text =
-    let f : (k : ℕ) → get_or n k 0 ≡ get_or (numbers_of a) k 0 = λ k. ap (λ (l : List ℕ). get_or l k 0) e in
+    let f : (k : ℕ) → get_or n k 0 ≡ get_or (anchor_numbers a) k 0 = λ k. ap (λ (l : List ℕ). get_or l k 0) e in
     let m0 : x.serial ≡ a.serial = n0 ∙ f 0 in
     let m1 : x.incarnation ≡ a.incarnation = n1 ∙ f 1 in
     let m2 : x.position ≡ a.position = n2 ∙ f 2 in

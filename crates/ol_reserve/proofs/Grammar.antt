@@ -4,9 +4,9 @@ use Rattle.std.specs.Prelude.{bytes_eq, slice_index, ◌||◌}
 use Rattle.std.specs.List.{list_all}
 use Rattle.std.proofs.lemmas.Bool.{and_parts, eqb-true}
 use Rattle.std.proofs.lemmas.Slice.Eq.{bytes_eq-Decides}
-use Rattle.ol_chunks.specs.Reading.{config_of}
+use Rattle.ol_chunks.specs.Reading.{config_in_text}
 use Rattle.ol_values.specs.Config.{Config}
-use Rattle.ol_reserve.specs.Anchor.{HasEach, IsAnchor, anchor_bytes, are_downs, are_states, front_bytes, in_limits, is_known, is_number, numbers_of}
+use Rattle.ol_reserve.specs.Anchor.{HasEach, IsAnchor, anchor_bytes, are_downs, are_states, front_bytes, anchor_in_limits, is_known, is_number, anchor_numbers}
 use Rattle.ol_reserve.specs.declared.anchor.Anchor.{Anchor}
 
 -- ---- limits
@@ -22,18 +22,18 @@ state_again : (s : ℕ) → (s ≡ 1) ⊎ (s ≡ 2) → (eqb s 1 || eqb s 2) ≡
 state_again s (inl e) = ap (λ (n : ℕ). eqb n 1 || eqb n 2) e
 state_again s (inr e) = ap (λ (n : ℕ). eqb n 1 || eqb n 2) e
 
-pub limits_again : (a : Anchor) → IsAnchor a → in_limits a ≡ true
-unfolding in_limits
+pub limits_again : (a : Anchor) → IsAnchor a → anchor_in_limits a ≡ true
+unfolding anchor_in_limits
 limits_again a is = rw (state_again a.state is.state, is.numbers, is.downs, is.zeros, is.ones, is.down_at) refl
 
-pub anchor_from : (a : Anchor) (n : ℕ) → in_limits a ≡ true → HasEach a → length a.text ≤ 1024 → (c : Config) × (config_of a.text ≡ Ok c) × (n ≡ length c.spaces) → are_states n a.states ≡ true → IsAnchor a
-unfolding in_limits
+pub anchor_from : (a : Anchor) (n : ℕ) → anchor_in_limits a ≡ true → HasEach a → length a.text ≤ 1024 → (c : Config) × (config_in_text a.text ≡ Ok c) × (n ≡ length c.spaces) → are_states n a.states ≡ true → IsAnchor a
+unfolding anchor_in_limits
 anchor_from a n e each short config states =
     let p5 = and_parts _ (are_downs a.states a.down_at) e in
     let p4 = and_parts _ (list_all is_known a.one) p5.0 in
     let p3 = and_parts _ (list_all is_known a.zero) p4.0 in
     let p2 = and_parts _ (list_all is_number a.down_at) p3.0 in
-    let p1 = and_parts (eqb a.state 1 || eqb a.state 2) (list_all is_number (numbers_of a)) p2.0 in
+    let p1 = and_parts (eqb a.state 1 || eqb a.state 2) (list_all is_number (anchor_numbers a)) p2.0 in
     record {
       state = state_from a.state p1.0;
       numbers = p1.1;

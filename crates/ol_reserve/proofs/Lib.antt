@@ -3,5 +3,7 @@ mod Fields
 pub mod Gates
 mod Grammar
 mod Known
+mod OneAnchor
+pub mod PairLaws
 mod Results
 mod Targets

@@ -1,7 +1,9 @@
 -- What holds of a result that is Ok, or of an option that holds a value.
-use Rattle.std.proofs.Common.{Err, List, None, Ok, OnOk, Option, Result, Some, ap, length, subst, sym, ◌∙◌, ◌≡◌, ◌≤◌, ℕ}
+use Rattle.std.proofs.Common.{Err, List, None, Ok, OnOk, Option, Result, Some, ap, length, refl, subst, sym, ◌∙◌, ◌≡◌, ◌≤◌, ℕ}
 use Rattle.std.specs.Option.{SomeIff}
 use Rattle.ol_reserve.specs.declared.anchor.Anchor.{Anchor}
+use Rattle.ol_reserve.specs.declared.anchor.AnchorFault.{AnchorFault}
+use Rattle.ol_reserve.specs.declared.anchor.AnchorFault.TheVariants.{BadAnchor}
 
 pub on_ok : {T E : Type 0} {A B : Type 0} (r : Result T E) → (A → B) → OnOk r A → OnOk r B
 on_ok (Ok x) f a = f a
@@ -23,3 +25,7 @@ found_anchor x = Some x
 
 pub anchor_is : (x y : Anchor) → found_anchor x ≡ found_anchor y → x ≡ y
 anchor_is x y e = cc
+
+-- bytes that give no anchor are no anchor
+pub only_bad : (f : AnchorFault) → f ≡ BadAnchor
+only_bad BadAnchor = refl

@@ -2,37 +2,32 @@
 use Rattle.std.proofs.Common.{ltb-true, ◌≡◌, ⊎_elim, ℕ, zero, suc, ◌<◌, List, Bool, true, false, None, Option, Some, refl, sym, ◌∙◌, ap, arith}
 use Rattle.std.specs.Prelude.{◌==◌, nat_lt}
 use Rattle.std.proofs.lemmas.Bool.{eqb-false, eqb-true, ltb-false}
-use Rattle.std.proofs.lemmas.List.{ext_get_or}
-use Rattle.ol_outside.specs.Disk.{Bytes, Shows}
+use Rattle.ol_ports.specs.Disk.{Bytes, page_list}
+use Rattle.ol_ports.proofs.DiskLaws.{page_list-at}
 use Rattle.ol_reserve.specs.Anchor.{anchor_bytes}
 use Rattle.ol_reserve.specs.Pair.{Holds, IsNewestAt, IsShut, IsTarget, Newest, gate_in, serial_in, target_by}
 use Rattle.ol_reserve.specs.declared.anchor.Anchor.{Anchor}
-use Rattle.ol_reserve.proofs.Fields.{gate_back, length-anchor_bytes, serial_back}
+use Rattle.ol_reserve.proofs.Fields.{serial_back}
+use Rattle.ol_reserve.proofs.PairLaws.{holds_open}
 
 -- a page that is read and holds an anchor has its bytes
-pub bytes_of_holder : (d : Bytes) (page : ℕ) (buf : List ℕ) (a : Anchor) → Shows d 0 page buf → Holds d page a → buf ≡ anchor_bytes 1 a
-bytes_of_holder d page buf a shows holds =
-    let long = length-anchor_bytes 1 a holds.anchor in
-    ext_get_or 0 buf (anchor_bytes 1 a) (shows.size ∙ sym long) (λ i lt. let here : i < 2048 = omega (arith, shows.size) in shows.each i here ∙ holds.bytes i here)
+pub bytes_of_holder : (d : Bytes) (page : ℕ) (buf : List ℕ) (a : Anchor) → buf ≡ page_list d 0 page → Holds d page a → buf ≡ anchor_bytes 1 a
+bytes_of_holder d page buf a shows holds = shows ∙ holds.bytes
 
-serial_of_holder : (d : Bytes) (page : ℕ) (buf : List ℕ) (a : Anchor) → Shows d 0 page buf → Holds d page a → serial_in buf ≡ a.serial
+serial_of_holder : (d : Bytes) (page : ℕ) (buf : List ℕ) (a : Anchor) → buf ≡ page_list d 0 page → Holds d page a → serial_in buf ≡ a.serial
 serial_of_holder d page buf a shows holds = ap serial_in (bytes_of_holder d page buf a shows holds) ∙ serial_back 1 a holds.anchor
 
 -- the test of a gate, and what it tells
-gate_is : (d : Bytes) (page : ℕ) (buf : List ℕ) → Shows d 0 page buf → gate_in buf ≡ d 0 page 0
-gate_is d page buf shows = shows.each 0 (omega arith)
+pub gate_is : (d : Bytes) (page : ℕ) (buf : List ℕ) → buf ≡ page_list d 0 page → gate_in buf ≡ d 0 page 0
+gate_is d page buf shows = ap gate_in shows ∙ page_list-at d 0 page 0 (omega arith)
 
-shut_by : (d : Bytes) (page : ℕ) (buf : List ℕ) → Shows d 0 page buf → (gate_in buf == 1) ≡ false → IsShut d page
+pub shut_by : (d : Bytes) (page : ℕ) (buf : List ℕ) → buf ≡ page_list d 0 page → (gate_in buf == 1) ≡ false → IsShut d page
 shut_by d page buf shows e opened = eqb-false (gate_in buf) 1 e (gate_is d page buf shows ∙ opened)
 
-open_by : (d : Bytes) (page : ℕ) (buf : List ℕ) → Shows d 0 page buf → (gate_in buf == 1) ≡ true → d 0 page 0 ≡ 1
+open_by : (d : Bytes) (page : ℕ) (buf : List ℕ) → buf ≡ page_list d 0 page → (gate_in buf == 1) ≡ true → d 0 page 0 ≡ 1
 open_by d page buf shows e = sym (gate_is d page buf shows) ∙ eqb-true (gate_in buf) 1 e
 
--- a page that holds an anchor is not shut
-pub holds_open : (d : Bytes) (page : ℕ) (a : Anchor) → Holds d page a → IsShut d page → ⊥
-holds_open d page a holds shut = shut (holds.bytes 0 (omega arith) ∙ gate_back 1 a)
-
-module _ (d : Bytes) (first second : List ℕ) (shows0 : Shows d 0 0 first) (shows1 : Shows d 0 1 second) where
+module _ (d : Bytes) (first second : List ℕ) (shows0 : first ≡ page_list d 0 0) (shows1 : second ≡ page_list d 0 1) where
   none : IsShut d 0 → IsShut d 1 → (b c l : Bool) → (gate_in first == 1) ≡ b → IsTarget d None (target_by b c l)
   none shut0 shut1 true c l e = absurd (shut0 (open_by d 0 first shows0 e))
   none shut0 shut1 false c l e = record { pair = omega arith; other = shut1; mine = shut0 }
@@ -65,3 +60,11 @@ module _ (d : Bytes) (first second : List ℕ) (shows0 : Shows d 0 0 first) (sho
   pub target_found : (now : Option Anchor) → Newest d now → IsTarget d now (target_by (gate_in first == 1) (gate_in second == 1) (nat_lt (serial_in first) (serial_in second)))
   target_found None newest = none newest.0 newest.1 (gate_in first == 1) (gate_in second == 1) (nat_lt (serial_in first) (serial_in second)) refl
   target_found (Some a) newest = at_page a newest.0 newest.1 (gate_in first == 1) (gate_in second == 1) (nat_lt (serial_in first) (serial_in second)) refl refl refl
+
+  -- of a blank pair it is page 0
+  pub blank_target : Newest d None → (target_by (gate_in first == 1) (gate_in second == 1) (nat_lt (serial_in first) (serial_in second))).page ≡ 0
+  blank_target newest = by (gate_in first == 1) refl
+    where
+      by : (b : Bool) → (gate_in first == 1) ≡ b → (target_by b (gate_in second == 1) (nat_lt (serial_in first) (serial_in second))).page ≡ 0
+      by false e = refl
+      by true e = absurd (newest.0 (open_by d 0 first shows0 e))

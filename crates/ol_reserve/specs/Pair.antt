@@ -1,27 +1,28 @@
 -- The pair of reserved pages, pages 0 and 1 of chunk 0, and which of its anchors is the newest.
 use Rattle.std.specs.Int.{from_be_bytes, w64}
-use Rattle.std.specs.Prelude.{Bool, Err, IsErrOf, List, MatchBool, None, Ok, Option, Result, Some, drop, false, if◌then◌else◌, nat_lt, slice_index, take, true, ℕ, ◌+◌, ◌-◌, ◌<◌, ◌≤◌, ◌==◌, ◌≡◌, ◌≢◌, ◌⊎◌}
+use Rattle.std.specs.Prelude.{Bool, Err, IsErrOf, List, MatchBool, None, Ok, Option, Result, Some, drop, false, if◌then◌else◌, nat_lt, slice_index, take, true, ℕ, ◌+◌, ◌-◌, ◌<◌, ◌≤◌, ◌==◌, ◌&&◌, ◌≡◌, ◌≢◌, ◌⊎◌}
 use Rattle.std.proofs.Common.{get_or}
-use Rattle.ol_outside.specs.Causes.{Rose}
-use Rattle.ol_outside.specs.Disk.{Bytes, Past, Rest, seen}
-use Rattle.ol_reserve.specs.Anchor.{IsAnchor, anchor_bytes}
+use Rattle.ol_ports.specs.Causes.{HasFailed}
+use Rattle.ol_ports.specs.Disk.{Bytes, Past, Rest, page_list, seen}
+use Rattle.ol_ports.specs.Frames.{IsSettledIn}
+use Rattle.ol_reserve.specs.Anchor.{IsAnchor, anchor_bytes, is_low}
 use Rattle.ol_reserve.specs.declared.anchor.Anchor.{Anchor}
 use Rattle.ol_reserve.specs.declared.pair.ReserveFault.{ReserveFault}
-use Rattle.ol_reserve.specs.declared.pair.ReserveFault.TheVariants.{Blank, DiskFault, NoMemory}
+use Rattle.ol_reserve.specs.declared.pair.ReserveFault.TheVariants.{Blank, DiskFault}
 use Rattle.ol_reserve.specs.declared.pair.Target.{Target}
+
+-- whether a page is one of the pair
+abbrev pub is_pair : ℕ → ℕ → Bool
+is_pair chunk page = (chunk == 0) && nat_lt page 2
 
 -- the gate of a page is not open
 abbrev pub IsShut : Bytes → ℕ → Type 0
 IsShut d page = d 0 page 0 ≢ 1
 
--- a page has these bytes
-abbrev pub Reads : Bytes → ℕ → List ℕ → Type 0
-Reads d page bytes = (i : ℕ) → i < 2048 → d 0 page i ≡ get_or bytes i 0
-
 -- a page holds this anchor behind an open gate
 pub record Holds (d : Bytes) (page : ℕ) (a : Anchor) : Type 0 where
   pub anchor : IsAnchor a
-  pub bytes : Reads d page (anchor_bytes 1 a)
+  pub bytes : page_list d 0 page ≡ anchor_bytes 1 a
 
 -- the page holds this anchor, and the other page is shut or holds one with a lower serial
 pub record IsNewestAt (d : Bytes) (page : ℕ) (a : Anchor) : Type 0 where
@@ -45,14 +46,13 @@ IsAbove (Some a) serial = a.serial < serial
 
 -- this is the newest anchor, and a stop leaves both pages as they read
 pub record IsReady (past : Past) (now : Option Anchor) : Type 0 where
-  pub settled : (d : Bytes) → Rest past d → (page i : ℕ) → page < 2 → d 0 page i ≡ seen past 0 page i
+  pub settled : IsSettledIn past is_pair
   pub newest : Newest (seen past) now
 
--- what a stop before might have left, but for the two pages
-pub record FramedByPair (past : Past) (d : Bytes) : Type 0 where
-  pub from : Bytes
-  pub rest : Rest past from
-  pub same : (c p i : ℕ) → (c ≡ 0 → p < 2 → ⊥) → d c p i ≡ from c p i
+-- the same, with the page that holds it
+pub record IsReadyAt (past : Past) (page : ℕ) (a : Anchor) : Type 0 where
+  pub settled : IsSettledIn past is_pair
+  pub newest : IsNewestAt (seen past) page a
 
 -- ---- what reading the pair answers
 
@@ -60,44 +60,48 @@ pub record FramedByPair (past : Past) (d : Bytes) : Type 0 where
 abbrev pub there : (ℕ → ℕ) → Bytes → Bytes
 there sizes d chunk page i = if nat_lt page (sizes chunk) then d chunk page i else 0
 
--- the anchor is the newest, and these are its bytes
-abbrev pub IsTold : Bytes → List ℕ → Type 0
-IsTold d bytes = (a : Anchor) × Newest d (Some a) × (bytes ≡ anchor_bytes 1 a)
+-- each open page holds an anchor with numbers that an opening takes
+abbrev pub AreLow : Bytes → Type 0
+AreLow d = (page : ℕ) (a : Anchor) → page < 2 → Holds d page a → is_low a ≡ true
 
--- the bytes are those of an anchor behind an open gate
+-- the anchor is the newest, these are its bytes, and an opening takes all anchors of the pair
+abbrev pub IsTold : Bytes → List ℕ → Type 0
+IsTold d bytes = (a : Anchor) × Newest d (Some a) × (bytes ≡ anchor_bytes 1 a) × AreLow d
+
+-- the bytes are those of an anchor that an opening takes, behind an open gate
 abbrev pub IsSpelled : List ℕ → Type 0
-IsSpelled bytes = (a : Anchor) × IsAnchor a × (bytes ≡ anchor_bytes 1 a)
+IsSpelled bytes = (a : Anchor) × IsAnchor a × (bytes ≡ anchor_bytes 1 a) × (is_low a ≡ true)
 
 -- the same where there is a serial
 abbrev pub IsSpelledIf : Option ℕ → List ℕ → Type 0
 IsSpelledIf None bytes = Unit {0}
 IsSpelledIf (Some serial) bytes = IsSpelled bytes
 
--- a page of the pair is damaged: it is open and no anchor, or page 1 has the serial of page 0
-abbrev pub IsDamaged : Bytes → ℕ → Type 0
-IsDamaged d page =
-    ((d 0 page 0 ≡ 1) × ((a : Anchor) → Holds d page a → ⊥))
-    ⊎ ((page ≡ 1) × ((a b : Anchor) × Holds d 0 a × Holds d 1 b × (a.serial ≡ b.serial)))
+-- a page is open, and holds no anchor that an opening takes
+abbrev pub IsSpoilt : Bytes → ℕ → Type 0
+IsSpoilt d page = (d 0 page 0 ≡ 1) × ((a : Anchor) → Holds d page a → is_low a ≡ false)
 
--- the answer to reading a pair that is not damaged: its newest anchor, or that there is none; a fault or want of memory may come instead
+-- a page of the pair is damaged: it is spoilt, or page 1 has the serial of page 0
+abbrev pub IsDamaged : Bytes → ℕ → Type 0
+IsDamaged d page = IsSpoilt d page ⊎ ((page ≡ 1) × ((a b : Anchor) × Holds d 0 a × Holds d 1 b × (a.serial ≡ b.serial)))
+
+-- the answer to reading a pair that is not damaged: its newest anchor, or that there is none; a fault may come instead
 abbrev pub IsAnswer : Option Anchor → List ℕ → Result Unit ReserveFault → Type 0
 IsAnswer now bytes (Err (DiskFault chunk)) = chunk ≡ 0
-IsAnswer now bytes (Err NoMemory) = Unit {0}
 IsAnswer None bytes (Err Blank) = Unit {0}
 IsAnswer (Some a) bytes (Ok u) = bytes ≡ anchor_bytes 1 a
 IsAnswer _ bytes _ = ⊥
 
--- the counts of faults never fall, a fault of the disk raises that of chunk 0, and no other answer changes any
+-- a fault of the disk raises the count of chunk 0, and no other answer changes any
 pub record HasFaultCause {T : Type 0} (before now : ℕ → ℕ) (result : Result T ReserveFault) : Type 0 where
   pub later : (c : ℕ) → before c ≤ now c
-  pub fault : (chunk : ℕ) → IsErrOf result (DiskFault chunk) → (chunk ≡ 0) × Rose (before 0) (now 0)
+  pub fault : (chunk : ℕ) → IsErrOf result (DiskFault chunk) → (chunk ≡ 0) × HasFailed 0 before now
   pub kept : ((chunk : ℕ) → IsErrOf result (DiskFault chunk) → ⊥) → now ≡ before
-  pub others : (c : ℕ) → c ≢ 0 → now c ≡ before c
 
--- what is told of one page: its gate is shut, or it holds the anchor of this serial and these bytes
-abbrev pub IsPage : Bytes → ℕ → List ℕ → Option ℕ → Type 0
-IsPage d page bytes None = IsShut d page
-IsPage d page bytes (Some serial) = (a : Anchor) × Holds d page a × (a.serial ≡ serial) × (bytes ≡ anchor_bytes 1 a)
+-- what is told of one page: its gate is shut, or it holds the anchor of this serial and these bytes, which an opening takes
+abbrev pub TellsPage : Bytes → ℕ → List ℕ → Option ℕ → Type 0
+TellsPage d page bytes None = IsShut d page
+TellsPage d page bytes (Some serial) = (a : Anchor) × Holds d page a × (a.serial ≡ serial) × (bytes ≡ anchor_bytes 1 a) × (is_low a ≡ true)
 
 -- ---- where the next anchor goes
 
@@ -142,7 +146,7 @@ pub record IsTarget (d : Bytes) (now : Option Anchor) (t : Target) : Type 0 wher
   pub mine : MatchBool t.is_open (HoldsOlder d t.page now) (IsShut d t.page)
 
 -- the same of all that a stop may leave
-pub record IsPrepared (past : Past) (now : Option Anchor) (t : Target) : Type 0 where
+pub record HasTarget (past : Past) (now : Option Anchor) (t : Target) : Type 0 where
   pub each : (d : Bytes) → Rest past d → IsTarget d now t
 
 -- the page has the bytes of an anchor behind a closed gate, whatever a stop leaves

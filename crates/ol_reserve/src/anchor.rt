@@ -1,19 +1,18 @@
 //! The anchor as a value, and its bytes.
 
-ghost use Rattle.std.specs.Prelude.{◌≡◌, ◌+◌, ◌*◌, ◌<◌, ◌≤◌, ◌++◌, IfOk, IsErrOf, Ok, Some, bytes_eq, drop, length, slice_index, take, ℕ, ◌==◌, ◌||◌};
+ghost use Rattle.std.specs.Prelude.{◌≡◌, ◌+◌, ◌*◌, ◌<◌, ◌≤◌, ◌++◌, IfOk, IsErrOf, Ok, Some, bytes_eq, drop, length, nat_le, slice_index, take, ℕ, ◌==◌, ◌^◌, ◌||◌};
 ghost use Rattle.std.specs.List.{list_all};
 ghost use Rattle.std.proofs.Common.{get_or};
 ghost use Rattle.ol_bytes.specs.Numbers.{numbers_bytes};
-ghost use Rattle.ol_reserve.specs.Anchor.{HasEach, IsAnchor, anchor_bytes, are_downs as are_downs_lem, are_states as are_states_lem, front_bytes, in_limits, is_known, is_number, known_of, numbers_of as numbers_of_lem};
-ghost use Rattle.ol_chunks.specs.Reading.{config_of};
+ghost use Rattle.ol_reserve.specs.Anchor.{HasEach, IsAnchor, anchor_bytes, are_downs as are_downs_lem, are_states as are_states_lem, front_bytes, anchor_in_limits, is_known, is_low, is_number, known_of, anchor_numbers as numbers_of_lem};
+ghost use Rattle.ol_chunks.specs.Reading.{config_in_text};
 ghost use Rattle.ol_values.specs.Config.{Config};
 ghost use Rattle.ol_reserve.specs.declared.anchor.Anchor.{Anchor as AnchorValue};
 
 use crate::ConfigText;
 use ol_bytes::{clear_from, put, put_numbers, read_numbers};
 use ol_chunks::{ConfigFault, parse_config};
-use ol_outside::PAGE_LENGTH;
-use std::alloc::Global;
+use ol_ports::PAGE_LENGTH;
 
 /// The most spaces that an installation has.
 pub const SPACES: usize = 16;
@@ -44,6 +43,9 @@ const DOWN: u8 = 2;
 
 /// The greatest number of an anchor: 2^62.
 const MOST: u64 = 4611686018427387904;
+
+/// The greatest of them that an opening takes: 2^60.
+const MOST_OPENED: u64 = 1152921504606846976;
 
 /// The known levels of a space are four numbers.
 const LEVEL_NUMBERS: usize = 4 * SPACES;
@@ -98,8 +100,8 @@ impl Anchor {
     ///
     /// `BadAnchor` comes exactly where the bytes are no anchor: its state is 1 or 2, its numbers are at most 2^62, its text is a
     /// configuration, the spaces of the configuration alone are up or down, and only a space that is down tells where.
-    /// `NoMemory` comes where the test of the configuration was refused memory.
-    pub fn decode(alloc: Global, page: &[u8; PAGE_LENGTH]) -> Result<Anchor, AnchorFault>
+    /// It takes no memory.
+    pub fn decode(page: &[u8; PAGE_LENGTH]) -> Result<Anchor, AnchorFault>
         ensures found { IfOk result (λ a. IsAnchor a × (page.now ≡ anchor_bytes (slice_index page.now 0) a)) }
         ensures only { (gate : ℕ) (a : AnchorValue) → IsAnchor a → page.now ≡ anchor_bytes gate a → IfOk result (λ x. x ≡ a) }
         ensures bad { IsErrOf result AnchorFault.BadAnchor → (gate : ℕ) (a : AnchorValue) → IsAnchor a → page.now ≡ anchor_bytes gate a → ⊥ }
@@ -110,7 +112,7 @@ impl Anchor {
         if !is_spelled(&anchor, page) || !is_in_limits(&anchor) {
             return Err(AnchorFault::BadAnchor);
         }
-        match spaces_of(alloc, anchor.text.bytes()) {
+        match spaces_of(anchor.text.bytes()) {
             Ok(spaces) => {
                 if are_states(spaces, &anchor.states) {
                     Ok(anchor)
@@ -121,6 +123,35 @@ impl Anchor {
             Err(fault) => Err(fault),
         }
     }
+
+    /// Whether its serial, its incarnation, its generation, its unique numbers and its numbers of archives are at most 2^60.
+    /// An opening takes no greater ones, so that no command reaches the bound of an anchor's numbers, 2^62.
+    #[tactic(auto, unfolding(crate::specs::Anchor::is_low))]
+    pub fn is_low(&self) -> bool
+        ensures { result ≡ is_low self.now }
+    {
+        let numbers = [
+            self.serial,
+            self.incarnation,
+            self.generation,
+            self.next_archive,
+            self.backed,
+            self.uniq,
+        ];
+        are_low(&numbers) && have_low_numbers(&self.zero) && have_low_numbers(&self.one)
+    }
+}
+
+fn are_low(numbers: &[u64]) -> bool
+    ensures { result ≡ list_all (λ n. nat_le n (2 ^ 60)) numbers.now }
+{
+    numbers.iter().all(|n| *n <= MOST_OPENED)
+}
+
+fn have_low_numbers(known: &[(u64, u64)]) -> bool
+    ensures { result ≡ list_all (λ (k : ℕ × ℕ). nat_le k.0 (2 ^ 60)) known.now }
+{
+    known.iter().all(|k| k.0 <= MOST_OPENED)
 }
 
 /// Whether a page has the bytes of an anchor, whatever its gate byte is.
@@ -135,9 +166,9 @@ fn is_spelled(anchor: &Anchor, page: &[u8; PAGE_LENGTH]) -> bool
 }
 
 /// Whether an anchor is within its limits, but for what its configuration says.
-#[tactic(auto, unfolding(crate::specs::Anchor::in_limits))]
+#[tactic(auto, unfolding(crate::specs::Anchor::anchor_in_limits))]
 fn is_in_limits(anchor: &Anchor) -> bool
-    ensures limits { result ≡ in_limits anchor.now }
+    ensures limits { result ≡ anchor_in_limits anchor.now }
     ensures each { HasEach anchor.now }
 {
     let numbers = [
@@ -202,15 +233,14 @@ fn are_absent(states: &[u8]) -> bool
 }
 
 /// How many spaces the configuration of a text has. `BadAnchor` comes where the text is none.
-fn spaces_of(alloc: Global, text: &[u8]) -> Result<u8, AnchorFault>
-    ensures found { IfOk result (λ n. (c : Config) × (config_of text.now ≡ Ok c) × (n ≡ length c.spaces)) }
+fn spaces_of(text: &[u8]) -> Result<u8, AnchorFault>
+    ensures found { IfOk result (λ n. (c : Config) × (config_in_text text.now ≡ Ok c) × (n ≡ length c.spaces)) }
     ensures few { IfOk result (λ n. n ≤ 16) }
-    ensures bad { IsErrOf result AnchorFault.BadAnchor → (c : Config) → config_of text.now ≡ Ok c → ⊥ }
+    ensures bad { IsErrOf result AnchorFault.BadAnchor → (c : Config) → config_in_text text.now ≡ Ok c → ⊥ }
 {
-    match parse_config(alloc, text) {
+    match parse_config(text) {
         Ok(table) => Ok(table.spaces()),
         Err(ConfigFault::BadConfig { line: _ }) => Err(AnchorFault::BadAnchor),
-        Err(ConfigFault::NoMemory) => Err(AnchorFault::NoMemory),
     }
 }
 
@@ -219,8 +249,6 @@ fn spaces_of(alloc: Global, text: &[u8]) -> Result<u8, AnchorFault>
 pub enum AnchorFault {
     /// The bytes are not an anchor of the grammar.
     BadAnchor,
-    /// Memory was refused.
-    NoMemory,
 }
 
 /// The anchor that a page tells, if its text is not too long: field by field, whatever else stands on the page.

@@ -1,16 +1,17 @@
 //! The pair of reserved pages that holds the anchor.
 
 ghost use Rattle.std.specs.Prelude.{◌≡◌, ◌<◌, ◌≤◌, ℕ, None, Option, Some, IfErr, IfOk, IsErrOf, OnOk, drop, length};
-ghost use Rattle.ol_outside.specs.Causes.{HasChunkCause};
-ghost use Rattle.ol_outside.specs.Disk.{Bytes, Leaves, Rest, Shows, seen};
+ghost use Rattle.ol_ports.specs.Causes.{HasChunkCause};
+ghost use Rattle.ol_ports.specs.Disk.{Bytes, page_list, seen};
+ghost use Rattle.ol_ports.specs.Frames.{FramedIn};
+ghost use Rattle.ol_ports.specs.Stops.{Stops};
 ghost use Rattle.ol_reserve.specs.Anchor.{IsAnchor, anchor_bytes};
-ghost use Rattle.ol_reserve.specs.Pair.{FramedByPair, HasFaultCause, IsAbove, IsAnswer, IsDamaged, IsOneOf, IsPage, IsPrepared, IsReady, IsSpelled, IsSpelledIf, IsStaged, IsTarget, IsTold, Newest, serial_in, shut_target, target_in, there};
+ghost use Rattle.ol_reserve.specs.Pair.{AreLow, HasFaultCause, HasTarget, IsAbove, IsAnswer, IsDamaged, IsOneOf, IsReady, IsReadyAt, IsSpelled, IsSpelledIf, IsSpoilt, IsStaged, IsTarget, IsTold, Newest, TellsPage, is_pair, serial_in, shut_target, target_in, there};
 ghost use Rattle.ol_reserve.specs.declared.anchor.Anchor.{Anchor as AnchorValue};
 
 use crate::{Anchor, AnchorFault};
 use ol_bytes::number;
-use ol_outside::{Disk, Failed, PAGE_LENGTH, write_synced};
-use std::alloc::Global;
+use ol_ports::{Disk, Failed, PAGE_LENGTH, write_synced};
 
 /// The chunk of the pair, whose pages 0 and 1 it is.
 const CHUNK: u8 = 0;
@@ -26,12 +27,10 @@ const SHUT: u8 = 0;
 pub enum ReserveFault {
     /// Neither page is open: the disk was never formatted, or its formatting did not end.
     Blank,
-    /// An open page is not an anchor, or page 1 has the serial of page 0.
+    /// An open page is not an anchor, or one with numbers that no opening takes, or page 1 has the serial of page 0.
     BadDisk { chunk: u8, page: u32 },
     /// A call of the disk failed.
     DiskFault { chunk: u8 },
-    /// Memory was refused.
-    NoMemory,
 }
 
 /// What a failed call of the disk is answered as.
@@ -52,25 +51,31 @@ impl Pair {
     /// Reads the newest anchor of the pair, whose bytes are then in `buf`. A page that the disk doesn't have counts as one
     /// with a closed gate.
     ///
-    /// `Blank` comes exactly where neither gate is open, `BadDisk` where an open page is not an anchor or page 1 has the serial
-    /// of page 0, `DiskFault` only where the count of faults of chunk 0 rose. `NoMemory` comes where the test of a
-    /// configuration was refused memory. After a refusal `buf` may hold anything.
-    pub fn newest<D: Disk>(
-        alloc: Global,
-        disk: &mut D,
-        buf: &mut [u8; PAGE_LENGTH],
-    ) -> Result<(), ReserveFault>
+    /// `Blank` comes exactly where neither gate is open, `BadDisk` where an open page is not an anchor, has a number above those
+    /// that an opening takes (`Anchor::is_low`), or page 1 has the serial of page 0; of two such pages it names page 0.
+    /// `DiskFault` comes only where the count of faults of chunk 0 rose. After a refusal `buf` may hold anything. It takes no
+    /// memory.
+    pub fn newest<D: Disk>(disk: &mut D, buf: &mut [u8; PAGE_LENGTH]) -> Result<(), ReserveFault>
         ensures ok { D.tells → OnOk result (IsTold (there (D.sizes disk.old) (seen (D.past disk.old))) buf.new) }
         ensures anchor { OnOk result (IsSpelled buf.new) }
         ensures blank { D.tells → IsErrOf result ReserveFault.Blank → Newest (there (D.sizes disk.old) (seen (D.past disk.old))) None }
         ensures bad { D.tells → (chunk page : ℕ) → IsErrOf result (ReserveFault.BadDisk chunk page) → IsDamaged (there (D.sizes disk.old) (seen (D.past disk.old))) page }
+        ensures first { D.tells → (chunk : ℕ) → IsErrOf result (ReserveFault.BadDisk chunk 1) → IsSpoilt (there (D.sizes disk.old) (seen (D.past disk.old))) 0 → ⊥ }
         ensures place { (chunk page : ℕ) → IsErrOf result (ReserveFault.BadDisk chunk page) → (chunk ≡ 0) × (page < 2) }
-        ensures answer { D.tells → (now : Option AnchorValue) → Newest (there (D.sizes disk.old) (seen (D.past disk.old))) now → IsAnswer now buf.new result }
+        ensures answer { D.tells → AreLow (there (D.sizes disk.old) (seen (D.past disk.old))) → (now : Option AnchorValue) → Newest (there (D.sizes disk.old) (seen (D.past disk.old))) now → IsAnswer now buf.new result }
         ensures past { D.tells → D.past disk.new ≡ D.past disk.old }
         ensures sizes { D.sizes disk.new ≡ D.sizes disk.old }
         ensures cause { HasFaultCause (D.fault_counts disk.old) (D.fault_counts disk.new) result }
     {
-        read_pair(alloc, disk, buf)
+        let first = match read_page(disk, 0, buf) {
+            Ok(serial) => serial,
+            Err(fault) => return Err(fault),
+        };
+        let mut other = [0; PAGE_LENGTH];
+        match read_page(disk, 1, &mut other) {
+            Ok(second) => pick(first, second, buf, &other),
+            Err(fault) => Err(fault),
+        }
     }
 
     /// Writes an anchor, with its serial, to the page that does not hold the newest one, page 0 where neither gate is
@@ -79,65 +84,24 @@ impl Pair {
     /// `DiskFault` of chunk 0 comes only where its count of faults rose. The newest anchor is then the one before or this one.
     pub fn write<D: Disk>(disk: &mut D, anchor: &Anchor) -> Result<(), ReserveFault>
         requires size { 2 ≤ D.sizes disk.old 0 }
-        ensures any_moment { D.tells → (now : Option AnchorValue) → IsReady (D.past disk.old) now → IsAnchor anchor.now → IsAbove now anchor.now.serial → Leaves (D.past disk.old) (D.past disk.new) (IsOneOf now (Some anchor.now)) }
-        ensures rest { D.tells → (now : Option AnchorValue) → IsReady (D.past disk.old) now → IsAnchor anchor.now → IsAbove now anchor.now.serial → (d : Bytes) → Rest (D.past disk.new) d → IsOneOf now (Some anchor.now) d }
+        ensures stops { D.tells → (now : Option AnchorValue) → IsReady (D.past disk.old) now → IsAnchor anchor.now → IsAbove now anchor.now.serial → Stops (D.past disk.old) (D.past disk.new) (IsOneOf now (Some anchor.now)) }
         ensures ok { D.tells → (now : Option AnchorValue) → IsReady (D.past disk.old) now → IsAnchor anchor.now → IsAbove now anchor.now.serial → OnOk result (IsReady (D.past disk.new) (Some anchor.now)) }
-        ensures frame { D.tells → Leaves (D.past disk.old) (D.past disk.new) (FramedByPair (D.past disk.old)) }
-        ensures frame_rest { D.tells → (d : Bytes) → Rest (D.past disk.new) d → FramedByPair (D.past disk.old) d }
+        ensures place { D.tells → IsReady (D.past disk.old) None → IsAnchor anchor.now → OnOk result (IsReadyAt (D.past disk.new) 0 anchor.now) }
+        ensures frame { D.tells → Stops (D.past disk.old) (D.past disk.new) (FramedIn (D.past disk.old) is_pair) }
         ensures sizes { D.sizes disk.new ≡ D.sizes disk.old }
         ensures cause { HasChunkCause 0 (D.fault_counts disk.old) (D.fault_counts disk.new) result }
         ensures fault { IfErr result (λ fault. fault ≡ ReserveFault.DiskFault 0) }
     {
-        match write_anchor(disk, anchor) {
-            Ok(()) => Ok(()),
+        let mut page = [0; PAGE_LENGTH];
+        anchor.encode(&mut page);
+        let (_, body) = page.split_at(1);
+        match find_target(disk) {
+            Ok(target) => match put(disk, target, body) {
+                Ok(()) => Ok(()),
+                Err(_) => Err(FAULT),
+            },
             Err(_) => Err(FAULT),
         }
-    }
-}
-
-/// Writes an anchor to the page that does not hold the newest one.
-fn write_anchor<D: Disk>(disk: &mut D, anchor: &Anchor) -> Result<(), Failed>
-    requires size { 2 ≤ D.sizes disk.old 0 }
-    ensures any_moment { D.tells → (now : Option AnchorValue) → IsReady (D.past disk.old) now → IsAnchor anchor.now → IsAbove now anchor.now.serial → Leaves (D.past disk.old) (D.past disk.new) (IsOneOf now (Some anchor.now)) }
-    ensures rest { D.tells → (now : Option AnchorValue) → IsReady (D.past disk.old) now → IsAnchor anchor.now → IsAbove now anchor.now.serial → (d : Bytes) → Rest (D.past disk.new) d → IsOneOf now (Some anchor.now) d }
-    ensures ok { D.tells → (now : Option AnchorValue) → IsReady (D.past disk.old) now → IsAnchor anchor.now → IsAbove now anchor.now.serial → OnOk result (IsReady (D.past disk.new) (Some anchor.now)) }
-    ensures frame { D.tells → Leaves (D.past disk.old) (D.past disk.new) (FramedByPair (D.past disk.old)) }
-    ensures frame_rest { D.tells → (d : Bytes) → Rest (D.past disk.new) d → FramedByPair (D.past disk.old) d }
-    ensures sizes { D.sizes disk.new ≡ D.sizes disk.old }
-    ensures cause { HasChunkCause 0 (D.fault_counts disk.old) (D.fault_counts disk.new) result }
-{
-    let mut page = [0; PAGE_LENGTH];
-    anchor.encode(&mut page);
-    let (_, body) = page.split_at(1);
-    match find_target(disk) {
-        Ok(target) => put(disk, target, body),
-        Err(failed) => Err(failed),
-    }
-}
-
-/// Reads both pages, of which the one with the newest anchor is then in `buf`.
-fn read_pair<D: Disk>(
-    alloc: Global,
-    disk: &mut D,
-    buf: &mut [u8; PAGE_LENGTH],
-) -> Result<(), ReserveFault>
-    ensures ok { D.tells → OnOk result (IsTold (there (D.sizes disk.old) (seen (D.past disk.old))) buf.new) }
-    ensures anchor { OnOk result (IsSpelled buf.new) }
-    ensures blank { D.tells → IsErrOf result ReserveFault.Blank → Newest (there (D.sizes disk.old) (seen (D.past disk.old))) None }
-    ensures bad { D.tells → (chunk page : ℕ) → IsErrOf result (ReserveFault.BadDisk chunk page) → IsDamaged (there (D.sizes disk.old) (seen (D.past disk.old))) page }
-    ensures place { (chunk page : ℕ) → IsErrOf result (ReserveFault.BadDisk chunk page) → (chunk ≡ 0) × (page < 2) }
-    ensures past { D.tells → D.past disk.new ≡ D.past disk.old }
-    ensures sizes { D.sizes disk.new ≡ D.sizes disk.old }
-    ensures cause { HasFaultCause (D.fault_counts disk.old) (D.fault_counts disk.new) result }
-{
-    let first = match read_page(alloc, disk, 0, buf) {
-        Ok(serial) => serial,
-        Err(fault) => return Err(fault),
-    };
-    let mut other = [0; PAGE_LENGTH];
-    match read_page(alloc, disk, 1, &mut other) {
-        Ok(second) => pick(first, second, buf, &other),
-        Err(fault) => Err(fault),
     }
 }
 
@@ -148,9 +112,9 @@ fn pick(
     buf: &mut [u8; PAGE_LENGTH],
     other: &[u8; PAGE_LENGTH],
 ) -> Result<(), ReserveFault>
-    ensures ok { (d : Bytes) → IsPage d 0 buf.old first → IsPage d 1 other.now second → OnOk result (IsTold d buf.new) }
-    ensures blank { (d : Bytes) → IsPage d 0 buf.old first → IsPage d 1 other.now second → IsErrOf result ReserveFault.Blank → Newest d None }
-    ensures bad { (d : Bytes) → IsPage d 0 buf.old first → IsPage d 1 other.now second → (chunk page : ℕ) → IsErrOf result (ReserveFault.BadDisk chunk page) → IsDamaged d page }
+    ensures ok { (d : Bytes) → TellsPage d 0 buf.old first → TellsPage d 1 other.now second → OnOk result (IsTold d buf.new) }
+    ensures blank { (d : Bytes) → TellsPage d 0 buf.old first → TellsPage d 1 other.now second → IsErrOf result ReserveFault.Blank → Newest d None }
+    ensures bad { (d : Bytes) → TellsPage d 0 buf.old first → TellsPage d 1 other.now second → (chunk page : ℕ) → IsErrOf result (ReserveFault.BadDisk chunk page) → IsDamaged d page }
     ensures place { (chunk page : ℕ) → IsErrOf result (ReserveFault.BadDisk chunk page) → (chunk ≡ 0) × (page < 2) }
     ensures anchor { IsSpelledIf first buf.old → IsSpelledIf second other.now → OnOk result (IsSpelled buf.new) }
     ensures fault { (chunk : ℕ) → IsErrOf result (ReserveFault.DiskFault chunk) → ⊥ }
@@ -180,13 +144,12 @@ fn pick(
 
 /// Reads a page of the pair, and gives its anchor's serial; None where its gate is closed or the disk doesn't have it.
 fn read_page<D: Disk>(
-    alloc: Global,
     disk: &mut D,
     page: u32,
     buf: &mut [u8; PAGE_LENGTH],
 ) -> Result<Option<u64>, ReserveFault>
     requires { page < 2 }
-    ensures told { D.tells → IfOk result (IsPage (there (D.sizes disk.old) (seen (D.past disk.old))) page buf.new) }
+    ensures told { D.tells → IfOk result (TellsPage (there (D.sizes disk.old) (seen (D.past disk.old))) page buf.new) }
     ensures bad { D.tells → (chunk at : ℕ) → IsErrOf result (ReserveFault.BadDisk chunk at) → IsDamaged (there (D.sizes disk.old) (seen (D.past disk.old))) at }
     ensures place { (chunk at : ℕ) → IsErrOf result (ReserveFault.BadDisk chunk at) → (chunk ≡ 0) × (at ≡ page) }
     ensures anchor { IfOk result (λ serial. IsSpelledIf serial buf.new) }
@@ -199,19 +162,15 @@ fn read_page<D: Disk>(
         return Ok(None);
     }
     match disk.read(CHUNK, page, buf) {
-        Ok(()) => test_page(alloc, page, buf),
+        Ok(()) => test_page(page, buf),
         Err(_) => Err(FAULT),
     }
 }
 
 /// The serial of the anchor of a page; None where its gate is closed.
-fn test_page(
-    alloc: Global,
-    page: u32,
-    bytes: &[u8; PAGE_LENGTH],
-) -> Result<Option<u64>, ReserveFault>
-    ensures told { (d : Bytes) → Shows d 0 page bytes.now → IfOk result (IsPage d page bytes.now) }
-    ensures bad { (d : Bytes) → Shows d 0 page bytes.now → (chunk at : ℕ) → IsErrOf result (ReserveFault.BadDisk chunk at) → IsDamaged d at }
+fn test_page(page: u32, bytes: &[u8; PAGE_LENGTH]) -> Result<Option<u64>, ReserveFault>
+    ensures told { (d : Bytes) → bytes.now ≡ page_list d 0 page → IfOk result (TellsPage d page bytes.now) }
+    ensures bad { (d : Bytes) → bytes.now ≡ page_list d 0 page → (chunk at : ℕ) → IsErrOf result (ReserveFault.BadDisk chunk at) → IsDamaged d at }
     ensures place { (chunk at : ℕ) → IsErrOf result (ReserveFault.BadDisk chunk at) → (chunk ≡ 0) × (at ≡ page) }
     ensures anchor { IfOk result (λ serial. IsSpelledIf serial bytes.now) }
     ensures blank { IsErrOf result ReserveFault.Blank → ⊥ }
@@ -220,10 +179,15 @@ fn test_page(
     if bytes[0] != OPEN {
         return Ok(None);
     }
-    match Anchor::decode(alloc, bytes) {
-        Ok(anchor) => Ok(Some(anchor.serial)),
+    match Anchor::decode(bytes) {
+        Ok(anchor) => {
+            if anchor.is_low() {
+                Ok(Some(anchor.serial))
+            } else {
+                Err(ReserveFault::BadDisk { chunk: CHUNK, page })
+            }
+        }
         Err(AnchorFault::BadAnchor) => Err(ReserveFault::BadDisk { chunk: CHUNK, page }),
-        Err(AnchorFault::NoMemory) => Err(ReserveFault::NoMemory),
     }
 }
 
@@ -232,11 +196,9 @@ fn put<D: Disk>(disk: &mut D, target: Target, body: &[u8]) -> Result<(), Failed>
     requires size { 2 ≤ D.sizes disk.old 0 }
     requires pair { target.page < 2 }
     requires body { length body.now ≡ 2047 }
-    ensures any_moment { D.tells → (now : Option AnchorValue) (a : AnchorValue) → IsPrepared (D.past disk.old) now target → body.now ≡ drop 1 (anchor_bytes 1 a) → IsAnchor a → IsAbove now a.serial → Leaves (D.past disk.old) (D.past disk.new) (IsOneOf now (Some a)) }
-    ensures rest { D.tells → (now : Option AnchorValue) (a : AnchorValue) → IsPrepared (D.past disk.old) now target → body.now ≡ drop 1 (anchor_bytes 1 a) → IsAnchor a → IsAbove now a.serial → (d : Bytes) → Rest (D.past disk.new) d → IsOneOf now (Some a) d }
-    ensures ok { D.tells → (now : Option AnchorValue) (a : AnchorValue) → IsPrepared (D.past disk.old) now target → body.now ≡ drop 1 (anchor_bytes 1 a) → IsAnchor a → IsAbove now a.serial → OnOk result (IsReady (D.past disk.new) (Some a)) }
-    ensures frame { D.tells → Leaves (D.past disk.old) (D.past disk.new) (FramedByPair (D.past disk.old)) }
-    ensures frame_rest { D.tells → (d : Bytes) → Rest (D.past disk.new) d → FramedByPair (D.past disk.old) d }
+    ensures stops { D.tells → (now : Option AnchorValue) (a : AnchorValue) → HasTarget (D.past disk.old) now target → body.now ≡ drop 1 (anchor_bytes 1 a) → IsAnchor a → IsAbove now a.serial → Stops (D.past disk.old) (D.past disk.new) (IsOneOf now (Some a)) }
+    ensures ok { D.tells → (now : Option AnchorValue) (a : AnchorValue) → HasTarget (D.past disk.old) now target → body.now ≡ drop 1 (anchor_bytes 1 a) → IsAnchor a → IsAbove now a.serial → OnOk result (IsReadyAt (D.past disk.new) target.page a) }
+    ensures frame { D.tells → Stops (D.past disk.old) (D.past disk.new) (FramedIn (D.past disk.old) is_pair) }
     ensures sizes { D.sizes disk.new ≡ D.sizes disk.old }
     ensures cause { HasChunkCause 0 (D.fault_counts disk.old) (D.fault_counts disk.new) result }
 {
@@ -251,11 +213,9 @@ fn stage<D: Disk>(disk: &mut D, target: Target, body: &[u8]) -> Result<(), Faile
     requires size { 2 ≤ D.sizes disk.old 0 }
     requires pair { target.page < 2 }
     requires body { length body.now ≡ 2047 }
-    ensures any_moment { D.tells → (now : Option AnchorValue) → IsPrepared (D.past disk.old) now target → Leaves (D.past disk.old) (D.past disk.new) (λ d. Newest d now) }
-    ensures rest { D.tells → (now : Option AnchorValue) → IsPrepared (D.past disk.old) now target → (d : Bytes) → Rest (D.past disk.new) d → Newest d now }
-    ensures ok { D.tells → (now : Option AnchorValue) → IsPrepared (D.past disk.old) now target → OnOk result (IsStaged (D.past disk.new) now target.page body.now) }
-    ensures frame { D.tells → Leaves (D.past disk.old) (D.past disk.new) (FramedByPair (D.past disk.old)) }
-    ensures frame_rest { D.tells → (d : Bytes) → Rest (D.past disk.new) d → FramedByPair (D.past disk.old) d }
+    ensures stops { D.tells → (now : Option AnchorValue) → HasTarget (D.past disk.old) now target → Stops (D.past disk.old) (D.past disk.new) (λ d. Newest d now) }
+    ensures ok { D.tells → (now : Option AnchorValue) → HasTarget (D.past disk.old) now target → OnOk result (IsStaged (D.past disk.new) now target.page body.now) }
+    ensures frame { D.tells → Stops (D.past disk.old) (D.past disk.new) (FramedIn (D.past disk.old) is_pair) }
     ensures sizes { D.sizes disk.new ≡ D.sizes disk.old }
     ensures cause { HasChunkCause 0 (D.fault_counts disk.old) (D.fault_counts disk.new) result }
 {
@@ -269,11 +229,9 @@ fn stage<D: Disk>(disk: &mut D, target: Target, body: &[u8]) -> Result<(), Faile
 fn close<D: Disk>(disk: &mut D, target: Target) -> Result<(), Failed>
     requires size { 2 ≤ D.sizes disk.old 0 }
     requires pair { target.page < 2 }
-    ensures any_moment { D.tells → (now : Option AnchorValue) → IsPrepared (D.past disk.old) now target → Leaves (D.past disk.old) (D.past disk.new) (λ d. Newest d now) }
-    ensures rest { D.tells → (now : Option AnchorValue) → IsPrepared (D.past disk.old) now target → (d : Bytes) → Rest (D.past disk.new) d → Newest d now }
-    ensures ok { D.tells → (now : Option AnchorValue) → IsPrepared (D.past disk.old) now target → OnOk result (IsPrepared (D.past disk.new) now (shut_target target.page)) }
-    ensures frame { D.tells → Leaves (D.past disk.old) (D.past disk.new) (FramedByPair (D.past disk.old)) }
-    ensures frame_rest { D.tells → (d : Bytes) → Rest (D.past disk.new) d → FramedByPair (D.past disk.old) d }
+    ensures stops { D.tells → (now : Option AnchorValue) → HasTarget (D.past disk.old) now target → Stops (D.past disk.old) (D.past disk.new) (λ d. Newest d now) }
+    ensures ok { D.tells → (now : Option AnchorValue) → HasTarget (D.past disk.old) now target → OnOk result (HasTarget (D.past disk.new) now (shut_target target.page)) }
+    ensures frame { D.tells → Stops (D.past disk.old) (D.past disk.new) (FramedIn (D.past disk.old) is_pair) }
     ensures sizes { D.sizes disk.new ≡ D.sizes disk.old }
     ensures cause { HasChunkCause 0 (D.fault_counts disk.old) (D.fault_counts disk.new) result }
 {
@@ -289,11 +247,9 @@ fn write_body<D: Disk>(disk: &mut D, page: u32, body: &[u8]) -> Result<(), Faile
     requires size { 2 ≤ D.sizes disk.old 0 }
     requires pair { page < 2 }
     requires body { length body.now ≡ 2047 }
-    ensures any_moment { D.tells → (now : Option AnchorValue) → IsPrepared (D.past disk.old) now (shut_target page) → Leaves (D.past disk.old) (D.past disk.new) (λ d. Newest d now) }
-    ensures rest { D.tells → (now : Option AnchorValue) → IsPrepared (D.past disk.old) now (shut_target page) → (d : Bytes) → Rest (D.past disk.new) d → Newest d now }
-    ensures ok { D.tells → (now : Option AnchorValue) → IsPrepared (D.past disk.old) now (shut_target page) → OnOk result (IsStaged (D.past disk.new) now page body.now) }
-    ensures frame { D.tells → Leaves (D.past disk.old) (D.past disk.new) (FramedByPair (D.past disk.old)) }
-    ensures frame_rest { D.tells → (d : Bytes) → Rest (D.past disk.new) d → FramedByPair (D.past disk.old) d }
+    ensures stops { D.tells → (now : Option AnchorValue) → HasTarget (D.past disk.old) now (shut_target page) → Stops (D.past disk.old) (D.past disk.new) (λ d. Newest d now) }
+    ensures ok { D.tells → (now : Option AnchorValue) → HasTarget (D.past disk.old) now (shut_target page) → OnOk result (IsStaged (D.past disk.new) now page body.now) }
+    ensures frame { D.tells → Stops (D.past disk.old) (D.past disk.new) (FramedIn (D.past disk.old) is_pair) }
     ensures sizes { D.sizes disk.new ≡ D.sizes disk.old }
     ensures cause { HasChunkCause 0 (D.fault_counts disk.old) (D.fault_counts disk.new) result }
 {
@@ -304,11 +260,9 @@ fn write_body<D: Disk>(disk: &mut D, page: u32, body: &[u8]) -> Result<(), Faile
 fn open<D: Disk>(disk: &mut D, page: u32) -> Result<(), Failed>
     requires size { 2 ≤ D.sizes disk.old 0 }
     requires pair { page < 2 }
-    ensures any_moment { D.tells → (now : Option AnchorValue) (a : AnchorValue) → IsStaged (D.past disk.old) now page (drop 1 (anchor_bytes 1 a)) → IsAnchor a → IsAbove now a.serial → Leaves (D.past disk.old) (D.past disk.new) (IsOneOf now (Some a)) }
-    ensures rest { D.tells → (now : Option AnchorValue) (a : AnchorValue) → IsStaged (D.past disk.old) now page (drop 1 (anchor_bytes 1 a)) → IsAnchor a → IsAbove now a.serial → (d : Bytes) → Rest (D.past disk.new) d → IsOneOf now (Some a) d }
-    ensures ok { D.tells → (now : Option AnchorValue) (a : AnchorValue) → IsStaged (D.past disk.old) now page (drop 1 (anchor_bytes 1 a)) → IsAnchor a → IsAbove now a.serial → OnOk result (IsReady (D.past disk.new) (Some a)) }
-    ensures frame { D.tells → Leaves (D.past disk.old) (D.past disk.new) (FramedByPair (D.past disk.old)) }
-    ensures frame_rest { D.tells → (d : Bytes) → Rest (D.past disk.new) d → FramedByPair (D.past disk.old) d }
+    ensures stops { D.tells → (now : Option AnchorValue) (a : AnchorValue) → IsStaged (D.past disk.old) now page (drop 1 (anchor_bytes 1 a)) → IsAnchor a → IsAbove now a.serial → Stops (D.past disk.old) (D.past disk.new) (IsOneOf now (Some a)) }
+    ensures ok { D.tells → (now : Option AnchorValue) (a : AnchorValue) → IsStaged (D.past disk.old) now page (drop 1 (anchor_bytes 1 a)) → IsAnchor a → IsAbove now a.serial → OnOk result (IsReadyAt (D.past disk.new) page a) }
+    ensures frame { D.tells → Stops (D.past disk.old) (D.past disk.new) (FramedIn (D.past disk.old) is_pair) }
     ensures sizes { D.sizes disk.new ≡ D.sizes disk.old }
     ensures cause { HasChunkCause 0 (D.fault_counts disk.old) (D.fault_counts disk.new) result }
 {
@@ -319,6 +273,7 @@ fn open<D: Disk>(disk: &mut D, page: u32) -> Result<(), Failed>
 fn find_target<D: Disk>(disk: &mut D) -> Result<Target, Failed>
     requires { 2 ≤ D.sizes disk.old 0 }
     ensures found { D.tells → (now : Option AnchorValue) → Newest (seen (D.past disk.old)) now → IfOk result (IsTarget (seen (D.past disk.old)) now) }
+    ensures blank { D.tells → Newest (seen (D.past disk.old)) None → IfOk result (λ t. t.page ≡ 0) }
     ensures pair { IfOk result (λ t. t.page < 2) }
     ensures past { D.tells → D.past disk.new ≡ D.past disk.old }
     ensures sizes { D.sizes disk.new ≡ D.sizes disk.old }

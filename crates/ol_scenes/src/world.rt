@@ -11,7 +11,6 @@ use std::alloc::{AllocError, Global};
 /// The devices, what the last command left, and the configuration that names the spaces.
 #[derive(Drop)]
 pub struct World {
-    alloc: Global,
     stage: Stage,
     last: Option<Outcome>,
     table: Option<ChunkTable>,
@@ -21,7 +20,6 @@ impl World {
     /// New devices, and no command yet.
     pub fn new(alloc: Global) -> Result<World, AllocError> {
         Ok(World {
-            alloc,
             stage: Stage::new(alloc)?,
             last: None,
             table: None,
@@ -66,7 +64,7 @@ impl World {
     ) -> Result<(), Trouble> {
         let outcome = self.stage.command(given, input)?;
         if outcome.is_well() && is_init(given) {
-            self.table = parse_config(self.alloc, input).ok();
+            self.table = parse_config(input).ok();
         }
         tell_run(&outcome, quiet, told)?;
         self.last = Some(outcome);

@@ -11,10 +11,10 @@ use Rattle.ol_script.proofs.NameLaws.{first_is}
 use Rattle.ol_script.proofs.NumberLaws.{number_again, number_takes}
 use Rattle.ol_script.proofs.Steps.{bind_some, chosen, map_some}
 use Rattle.ol_script.proofs.WordLaws.{name_again, name_takes, names_again, names_takes, register_again, register_takes, row_again, row_takes, target_again, target_takes, two_is}
-use Rattle.ol_script.specs.Forms.{archive_of, archiver_form, backer_form, bare, checkpointer_form, count_of, delete_of, flusher_form, form_of, insert_of, list_of, read_of, restore_of, session_form, update_of, warmer_form}
-use Rattle.ol_script.specs.Pieces.{first_of, one_of, three_of, two_of}
+use Rattle.ol_script.specs.Forms.{archiver_form, backer_form, bare, checkpointer_form, count_of, delete_of, flusher_form, form_of, insert_of, level_and_spaces, list_of, read_of, restore_of, session_form, update_of, warmer_form}
+use Rattle.ol_script.specs.Pieces.{first_piece, one_of, three_of, two_of}
 use Rattle.ol_script.specs.Spelling.{IsArchive, IsArchiverForm, IsBackerForm, IsCheckpointerForm, IsCount, IsFlusherForm, IsFormOf, IsSessionForm, IsWarmerForm, register_text, target_text, verb_text, words_text}
-use Rattle.ol_script.specs.Words.{name_of, names_of, number_in, place_number, register_of, row_of, target_of}
+use Rattle.ol_script.specs.Words.{name_of, names_in_words, number_between, place_number, register_of, row_of, target_in_text}
 
 one_is : (pieces : List (List ℕ)) (w : List ℕ) → one_of pieces ≡ Some w → pieces ≡ w ∷ []
 one_is [] w e = absurd cc
@@ -74,7 +74,7 @@ update_takes : (words : List (List ℕ)) (form : Form) → update_of words ≡ S
 unfolding update_of
 update_takes words form e =
     let w = bind_some (two_of words) _ form e in
-    let t = bind_some (target_of w.0.0) _ form w.2 in
+    let t = bind_some (target_in_text w.0.0) _ form w.2 in
     let o = bind_some (row_of w.0.1) _ form t.2 in
     let target = target_takes w.0.0 t.0 t.1 in
     let row = row_takes w.0.1 o.0 o.1 in
@@ -89,7 +89,7 @@ delete_takes : (words : List (List ℕ)) (form : Form) → delete_of words ≡ S
 unfolding delete_of
 delete_takes words form e =
     let w = bind_some (one_of words) _ form e in
-    let t = bind_some (target_of w.0) _ form w.2 in
+    let t = bind_some (target_in_text w.0) _ form w.2 in
     let target = target_takes w.0 t.0 t.1 in
     let made : Follows IsSessionForm (codes "delete") words (Delete t.0) =
     record { leads = refl; follow = one_is words w.0 w.1 ∙ ap (λ (x : List ℕ). x ∷ []) target.0; is = target.1 } in
@@ -99,7 +99,7 @@ read_takes : (words : List (List ℕ)) (form : Form) → read_of words ≡ Some 
 unfolding read_of
 read_takes words form e =
     let w = bind_some (one_of words) _ form e in
-    let t = bind_some (target_of w.0) _ form w.2 in
+    let t = bind_some (target_in_text w.0) _ form w.2 in
     let target = target_takes w.0 t.0 t.1 in
     let made : Follows IsSessionForm (codes "read") words (Read t.0) =
     record { leads = refl; follow = one_is words w.0 w.1 ∙ ap (λ (x : List ℕ). x ∷ []) target.0; is = target.1 } in
@@ -163,20 +163,20 @@ session_again _ is = absurd is
 
 -- ---- archives and counts
 
-archive_takes : (words : List (List ℕ)) (p : ℕ × List (List ℕ)) → archive_of words ≡ Some p → (words ≡ decimal p.0 ∷ p.1) × IsArchive p.0 p.1
-unfolding archive_of
+archive_takes : (words : List (List ℕ)) (p : ℕ × List (List ℕ)) → level_and_spaces words ≡ Some p → (words ≡ decimal p.0 ∷ p.1) × IsArchive p.0 p.1
+unfolding level_and_spaces
 archive_takes words p e =
-    let w = bind_some (first_of words) _ p e in
-    let l = bind_some (number_in 0 2 w.0.0) _ p w.2 in
-    let s = bind_some (names_of w.0.1) _ p l.2 in
+    let w = bind_some (first_piece words) _ p e in
+    let l = bind_some (number_between 0 2 w.0.0) _ p w.2 in
+    let s = bind_some (names_in_words w.0.1) _ p l.2 in
     let level = number_takes 0 2 w.0.0 l.0 (omega arith) l.1 in
     let spaces = names_takes w.0.1 s.0 s.1 in
     let made : (words ≡ decimal l.0 ∷ s.0) × IsArchive l.0 s.0 =
     (first_is words w.0.0 w.0.1 w.1 ∙ ap (λ (x : List ℕ). x ∷ w.0.1) level.0 ∙ ap (λ (x : List (List ℕ)). decimal l.0 ∷ x) spaces.0, (level.2, spaces.1)) in
     subst (λ (x : ℕ × List (List ℕ)). (words ≡ decimal x.0 ∷ x.1) × IsArchive x.0 x.1) (same_Some (l.0, s.0) p s.2) made
 
-archive_again : (level : ℕ) (spaces : List (List ℕ)) → IsArchive level spaces → archive_of (decimal level ∷ spaces) ≡ Some (level, spaces)
-unfolding archive_of
+archive_again : (level : ℕ) (spaces : List (List ℕ)) → IsArchive level spaces → level_and_spaces (decimal level ∷ spaces) ≡ Some (level, spaces)
+unfolding level_and_spaces
 archive_again level spaces is = rw (number_again 0 2 level (omega arith) (omega arith) is.0, names_again spaces is.1) refl
 
 count_takes : (words : List (List ℕ)) (n : ℕ) → count_of words ≡ Some n → (words ≡ decimal n ∷ []) × IsCount n
@@ -191,9 +191,9 @@ unfolding count_of
 count_again n is = number_again 1 65535 n (omega arith) is.0 is.1
 
 archived : (Is : Form → Type 0) (make : ℕ × List (List ℕ) → Form) (word : List ℕ) (words : List (List ℕ)) (form : Form)
-    → ((p : ℕ × List (List ℕ)) → IsArchive p.0 p.1 → Follows Is word (decimal p.0 ∷ p.1) (make p)) → option_map make (archive_of words) ≡ Some form → Follows Is word words form
+    → ((p : ℕ × List (List ℕ)) → IsArchive p.0 p.1 → Follows Is word (decimal p.0 ∷ p.1) (make p)) → option_map make (level_and_spaces words) ≡ Some form → Follows Is word words form
 archived Is make word words form made e =
-    let m = map_some (archive_of words) make form e in
+    let m = map_some (level_and_spaces words) make form e in
     let a = archive_takes words m.0 m.1 in
     subst (λ (f : Form). Follows Is word words f) m.2 (subst (λ (w : List (List ℕ)). Follows Is word w (make m.0)) (sym a.0) (made m.0 a.1))
 

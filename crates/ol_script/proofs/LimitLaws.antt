@@ -9,7 +9,7 @@ use Rattle.ol_script.proofs.PieceLaws.{lacks, pieces_front, pieces_whole}
 use Rattle.ol_script.proofs.ScriptLaws.{line_from}
 use Rattle.ol_script.proofs.Steps.{guard_false}
 use Rattle.ol_script.specs.Pieces.{pieces_of}
-use Rattle.ol_script.specs.Script.{ends_at, line_at, line_by, line_of, line_then, script_from, script_limit, script_of}
+use Rattle.ol_script.specs.Script.{ends_at, line_at, line_before, line_by, line_in_text, script_from, script_limit, script_of}
 
 -- a text is one piece, or a first piece and a text behind the byte that parts them
 record Parted (mark : ℕ) (text : List ℕ) : Type 0 where
@@ -43,7 +43,7 @@ ends_front k (suc limit) (b ∷ text) some = refl
 last_from : (k : ℕ) (text : List ℕ) → lacks 10 text ≡ true → script_from k (pieces_of 10 text) ≡ ends_at k text
 last_from k text e = ap (script_from k) (pieces_whole 10 text e)
 
-cut_from : (k : ℕ) (line behind : List ℕ) → lacks 10 line ≡ true → script_from k (pieces_of 10 (line ++ 10 ∷ behind)) ≡ line_then k (line_at k line) (script_from (k + 1) (pieces_of 10 behind))
+cut_from : (k : ℕ) (line behind : List ℕ) → lacks 10 line ≡ true → script_from k (pieces_of 10 (line ++ 10 ∷ behind)) ≡ line_before k (line_at k line) (script_from (k + 1) (pieces_of 10 behind))
 cut_from k line behind e = ap (script_from k) (pieces_front 10 line behind e) ∙ line_from k line behind
 
 -- a text that is cut within its first line
@@ -52,10 +52,10 @@ short_at k limit [] some full = absurd (omega arith)
 short_at k limit (b ∷ line) some full = ends_front k limit (b ∷ line) some
 
 long_line : (k : ℕ) (line : List ℕ) → (65535 < k) ⊎ (255 < length line) → line_at k line ≡ None
-long_line k line (inl many) = ap (λ b. if b then None else line_of k line) (lt-ltb 65535 k many)
+long_line k line (inl many) = ap (λ b. if b then None else line_in_text k line) (lt-ltb 65535 k many)
 long_line k line (inr long) = go (nat_lt 65535 k)
   where
-    go : (u : Bool) → (if u then None else line_of k line) ≡ None
+    go : (u : Bool) → (if u then None else line_in_text k line) ≡ None
     go true = refl
     go false = ap (λ b. if b then None else line_by k (pieces_of 32 line)) (lt-ltb 255 (length line) long)
 
@@ -72,7 +72,7 @@ within k limit line behind clean some short off =
     ap (λ (l : List ℕ). script_from k (pieces_of 10 l)) (take-append-le limit line (10 ∷ behind) short)
     ∙ last_from k (take limit line) (lacks_front 10 limit line clean)
     ∙ short_at k limit line some (omega arith)
-    ∙ sym (cut_from k line behind clean ∙ ap (λ (o : Option Line). line_then k o (script_from (k + 1) (pieces_of 10 behind))) (long_line k line off))
+    ∙ sym (cut_from k line behind clean ∙ ap (λ (o : Option Line). line_before k o (script_from (k + 1) (pieces_of 10 behind))) (long_line k line off))
 
 -- a cut behind the first line
 behind_it : (k limit : ℕ) (line behind : List ℕ) → lacks 10 line ≡ true → length line < limit
@@ -85,14 +85,14 @@ behind_it k limit line behind clean long rest =
     ∙ sym (cut_from k line behind clean)
   where
     go : (o : Option Line) → ((l : Line) → o ≡ Some l → script_from (k + 1) (pieces_of 10 (take (limit - length line - 1) behind)) ≡ script_from (k + 1) (pieces_of 10 behind))
-        → line_then k o (script_from (k + 1) (pieces_of 10 (take (limit - length line - 1) behind))) ≡ line_then k o (script_from (k + 1) (pieces_of 10 behind))
+        → line_before k o (script_from (k + 1) (pieces_of 10 (take (limit - length line - 1) behind))) ≡ line_before k o (script_from (k + 1) (pieces_of 10 behind))
     go None r = refl
-    go (Some l) r = ap (λ (s : Result (List Line) ℕ). line_then k (Some l) s) (r l refl)
+    go (Some l) r = ap (λ (s : Result (List Line) ℕ). line_before k (Some l) s) (r l refl)
 
 -- a line that is there has a number and a length within the limits
 fits : (k : ℕ) (line : List ℕ) (l : Line) → line_at k line ≡ Some l → (k ≤ 65535) × (length line ≤ 255)
 fits k line l e =
-    let g = guard_false (nat_lt 65535 k) (line_of k line) l e in
+    let g = guard_false (nat_lt 65535 k) (line_in_text k line) l e in
     let h = guard_false (nat_lt 255 (length line)) (line_by k (pieces_of 32 line)) l g.1 in
     (ltb-false 65535 k g.0, ltb-false 255 (length line) h.0)
 

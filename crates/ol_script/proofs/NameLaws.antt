@@ -6,10 +6,10 @@ use Rattle.std.proofs.lemmas.Bool.{and_from, and_left, and_parts, and_right, le-
 use Rattle.std.proofs.lemmas.Option.{cond_some}
 use Rattle.std.proofs.lemmas.List.Folds.{list_all-append, list_any-append}
 use Rattle.ol_values.specs.Config.{is_name}
-use Rattle.ol_script.specs.Pieces.{first_of}
-use Rattle.ol_script.specs.Words.{are_different, are_names, name_of, names_of}
+use Rattle.ol_script.specs.Pieces.{first_piece}
+use Rattle.ol_script.specs.Words.{are_different, are_names, name_of, names_in_words}
 
-pub first_is : (pieces : List (List ℕ)) (piece : List ℕ) (more : List (List ℕ)) → first_of pieces ≡ Some (piece, more) → pieces ≡ piece ∷ more
+pub first_is : (pieces : List (List ℕ)) (piece : List ℕ) (more : List (List ℕ)) → first_piece pieces ≡ Some (piece, more) → pieces ≡ piece ∷ more
 first_is [] piece more e = cc
 first_is (p ∷ pieces) piece more e =
     let front = ap (λ (o : Option (List ℕ × List (List ℕ))). option_map (λ (q : List ℕ × List (List ℕ)). q.0) o) e in
@@ -43,12 +43,12 @@ pub record IsReading (words names left : List (List ℕ)) : Type 0 where
   pub each : list_all is_name names ≡ true
   pub different : are_different names ≡ true
 
-left_is : (words names left : List (List ℕ)) (word : List ℕ) (more : List (List ℕ)) → IsReading words names left → first_of left ≡ Some (word, more) → names ++ word ∷ more ≡ words
+left_is : (words names left : List (List ℕ)) (word : List ℕ) (more : List (List ℕ)) → IsReading words names left → first_piece left ≡ Some (word, more) → names ++ word ∷ more ≡ words
 left_is words names left word more r first = ap (λ (l : List (List ℕ)). names ++ l) (sym (first_is left word more first)) ∙ r.all
 
 -- ---- what makes words no list of names
 
-refused : (words : List (List ℕ)) → are_names words ≡ false → names_of words ≡ None
+refused : (words : List (List ℕ)) → are_names words ≡ false → names_in_words words ≡ None
 refused words e = ap (λ b. if b then Some words else None) e
 
 abbrev few : List (List ℕ) → Bool
@@ -57,13 +57,13 @@ few words = nat_le (length words) 16
 abbrev rest : List (List ℕ) → Bool
 rest words = list_all is_name words && are_different words
 
-pub too_many : (words names left : List (List ℕ)) (word : List ℕ) (more : List (List ℕ)) → IsReading words names left → first_of left ≡ Some (word, more) → length names ≡ 16 → names_of words ≡ None
+pub too_many : (words names left : List (List ℕ)) (word : List ℕ) (more : List (List ℕ)) → IsReading words names left → first_piece left ≡ Some (word, more) → length names ≡ 16 → names_in_words words ≡ None
 too_many words names left word more r first full =
     let is : words ≡ names ++ word ∷ more = sym (left_is words names left word more r first) in
     refused words (and_right (nat_le 1 (length words)) (few words && rest words) (and_left (few words) (rest words)
     (lt-leb (length words) 16 (omega (arith, length-append names (word ∷ more), ap (λ (l : List (List ℕ)). length l) is)))))
 
-pub twice : (words names left : List (List ℕ)) (word : List ℕ) (more : List (List ℕ)) → IsReading words names left → first_of left ≡ Some (word, more) → list_any (λ (n : List ℕ). bytes_eq n word) names ≡ true → names_of words ≡ None
+pub twice : (words names left : List (List ℕ)) (word : List ℕ) (more : List (List ℕ)) → IsReading words names left → first_piece left ≡ Some (word, more) → list_any (λ (n : List ℕ). bytes_eq n word) names ≡ true → names_in_words words ≡ None
 twice words names left word more r first found =
     let is : words ≡ names ++ word ∷ more = sym (left_is words names left word more r first) in
     refused words (and_right (nat_le 1 (length words)) (few words && rest words) (and_right (few words) (rest words)
@@ -76,40 +76,40 @@ no_name_is word e = go (is_name word) e
     go true e = cc
     go false e = refl
 
-pub no_name : (words names left : List (List ℕ)) (word : List ℕ) (more : List (List ℕ)) → IsReading words names left → first_of left ≡ Some (word, more) → name_of word ≡ None → names_of words ≡ None
+pub no_name : (words names left : List (List ℕ)) (word : List ℕ) (more : List (List ℕ)) → IsReading words names left → first_piece left ≡ Some (word, more) → name_of word ≡ None → names_in_words words ≡ None
 no_name words names left word more r first e =
     let is : words ≡ names ++ word ∷ more = sym (left_is words names left word more r first) in
     let bad : list_all is_name words ≡ false =
     ap (list_all is_name) is ∙ list_all-append is_name names (word ∷ more) ∙ and_right (list_all is_name names) (is_name word && list_all is_name more) (and_left (is_name word) (list_all is_name more) (no_name_is word e)) in
     refused words (and_right (nat_le 1 (length words)) (few words && rest words) (and_right (few words) (rest words) (and_left (list_all is_name words) (are_different words) bad)))
 
-none_left : (left : List (List ℕ)) → first_of left ≡ None → left ≡ []
+none_left : (left : List (List ℕ)) → first_piece left ≡ None → left ≡ []
 none_left [] e = refl
 none_left (piece ∷ left) e = cc
 
-whole : (words names left : List (List ℕ)) → IsReading words names left → first_of left ≡ None → words ≡ names
+whole : (words names left : List (List ℕ)) → IsReading words names left → first_piece left ≡ None → words ≡ names
 whole words names left r end = sym r.all ∙ ap (λ (l : List (List ℕ)). names ++ l) (none_left left end) ∙ append-nil names
 
-pub none_read : (words names left : List (List ℕ)) → IsReading words names left → first_of left ≡ None → (length names == 0) ≡ true → names_of words ≡ None
-none_read words [] left r end e = ap names_of (whole words [] left r end)
+pub none_read : (words names left : List (List ℕ)) → IsReading words names left → first_piece left ≡ None → (length names == 0) ≡ true → names_in_words words ≡ None
+none_read words [] left r end e = ap names_in_words (whole words [] left r end)
 none_read words (n ∷ names) left r end e = absurd (grind (arith, tests, e))
 
-all_named : (names : List (List ℕ)) → (length names == 0) ≡ false → length names ≤ 16 → list_all is_name names ≡ true → are_different names ≡ true → names_of names ≡ Some names
+all_named : (names : List (List ℕ)) → (length names == 0) ≡ false → length names ≤ 16 → list_all is_name names ≡ true → are_different names ≡ true → names_in_words names ≡ Some names
 all_named [] some limit each different = cc
 all_named (n ∷ names) some limit each different =
     let words = n ∷ names in
     ap (λ b. if b then Some words else None)
     (and_from (nat_le 1 (length words)) (few words && rest words) (le-leb 1 (length words) (omega arith)) (and_from (few words) (rest words) (le-leb (length words) 16 limit) (and_from (list_all is_name words) (are_different words) each different)))
 
-pub all_read : (words names left : List (List ℕ)) → IsReading words names left → first_of left ≡ None → (length names == 0) ≡ false → length names ≤ 16 → names_of words ≡ Some names
-all_read words names left r end some limit = ap names_of (whole words names left r end) ∙ all_named names some limit r.each r.different
+pub all_read : (words names left : List (List ℕ)) → IsReading words names left → first_piece left ≡ None → (length names == 0) ≡ false → length names ≤ 16 → names_in_words words ≡ Some names
+all_read words names left r end some limit = ap names_in_words (whole words names left r end) ∙ all_named names some limit r.each r.different
 
 -- ---- one name more
 
 named_is : (word name : List ℕ) → name_of word ≡ Some name → (is_name word ≡ true) × (word ≡ name)
 named_is word name e = cond_some (is_name word) word name e
 
-pub name_read : (words names left : List (List ℕ)) (word name : List ℕ) (more : List (List ℕ)) → IsReading words names left → first_of left ≡ Some (word, more) → list_any (λ (n : List ℕ). bytes_eq n word) names ≡ false → name_of word ≡ Some name
+pub name_read : (words names left : List (List ℕ)) (word name : List ℕ) (more : List (List ℕ)) → IsReading words names left → first_piece left ≡ Some (word, more) → list_any (λ (n : List ℕ). bytes_eq n word) names ≡ false → name_of word ≡ Some name
     → IsReading words (names ++ name ∷ []) more
 name_read words names left word name more r first new named =
     let n = named_is word name named in

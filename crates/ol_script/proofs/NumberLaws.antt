@@ -8,7 +8,7 @@ use Rattle.std.proofs.lemmas.List.{length-take}
 use Rattle.std.proofs.lemmas.Option.{cond_some}
 use Rattle.std.proofs.lemmas.Str.Parse.{IsNumeralModel, digits_value_short, numerals_by_fold}
 use Rattle.ol_values.specs.Config.{is_digit}
-use Rattle.ol_script.specs.Words.{is_number, leads_well, number_in, value_of}
+use Rattle.ol_script.specs.Words.{is_decimal, leads_well, number_between, value_of}
 
 abbrev pub AreDigits : List ℕ → Type 0
 AreDigits word = list_all is_digit word ≡ true
@@ -37,12 +37,12 @@ pub record IsRead (least most : ℕ) (word : List ℕ) (n : ℕ) : Type 0 where
   pub above : least ≤ n
   pub below : n ≤ most
 
-pub number_in-Some : (least most : ℕ) (word : List ℕ) (n : ℕ) → number_in least most word ≡ Some n → IsRead least most word n
-unfolding number_in
-number_in-Some least most word n e =
+pub number_between-Some : (least most : ℕ) (word : List ℕ) (n : ℕ) → number_between least most word ≡ Some n → IsRead least most word n
+unfolding number_between
+number_between-Some least most word n e =
     let v = value_of word in
-    let c = cond_some (is_number word && (nat_le least v && nat_le v most)) v n e in
-    let a = and_parts (is_number word) (nat_le least v && nat_le v most) c.0 in
+    let c = cond_some (is_decimal word && (nat_le least v && nat_le v most)) v n e in
+    let a = and_parts (is_decimal word) (nat_le least v && nat_le v most) c.0 in
     let r = and_parts (nat_le least v) (nat_le v most) a.1 in
     let d = and_parts (leads_well word) (list_all is_digit word) a.0 in
     record { is = sym c.1; leads = d.0; digits = d.1; above = omega (arith, leb-true least v r.0, c.1); below = omega (arith, leb-true v most r.1, c.1) }
@@ -58,16 +58,16 @@ spelled word leads digits small =
     let f = first_digit word leads in
     decimal-digits_value numerals word digits f.0 f.1 small
 
-pub number_takes : (least most : ℕ) (word : List ℕ) (n : ℕ) → most ≤ 99999 → number_in least most word ≡ Some n → (word ≡ decimal n) × (least ≤ n) × (n ≤ most)
+pub number_takes : (least most : ℕ) (word : List ℕ) (n : ℕ) → most ≤ 99999 → number_between least most word ≡ Some n → (word ≡ decimal n) × (least ≤ n) × (n ≤ most)
 number_takes least most word n limit e =
-    let r = number_in-Some least most word n e in
+    let r = number_between-Some least most word n e in
     (sym (spelled word r.leads r.digits (omega (arith, r.is, r.below))) ∙ ap (λ (m : ℕ). decimal m) (sym r.is), r.above, r.below)
 
 -- a number of more than five digits is greater than 99,999
-pub long_is_large : (least most : ℕ) (word : List ℕ) → most ≤ 99999 → 5 < length word → number_in least most word ≡ None
-long_is_large least most word limit long = go (number_in least most word) refl
+pub long_is_large : (least most : ℕ) (word : List ℕ) → most ≤ 99999 → 5 < length word → number_between least most word ≡ None
+long_is_large least most word limit long = go (number_between least most word) refl
   where
-    go : (r : Option ℕ) → number_in least most word ≡ r → r ≡ None
+    go : (r : Option ℕ) → number_between least most word ≡ r → r ≡ None
     go None e = refl
     go (Some n) e =
         let t = number_takes least most word n limit e in
@@ -88,8 +88,8 @@ number_leads n small = elim (cases_lt 0 n) [
 pub number_digits : (n : ℕ) → n ≤ 99999 → AreDigits (decimal n)
 number_digits n small = digits_decimal numerals n (omega arith)
 
-pub number_again : (least most n : ℕ) → most ≤ 99999 → least ≤ n → n ≤ most → number_in least most (decimal n) ≡ Some n
-unfolding number_in
+pub number_again : (least most n : ℕ) → most ≤ 99999 → least ≤ n → n ≤ most → number_between least most (decimal n) ≡ Some n
+unfolding number_between
 number_again least most n limit above below =
     let small : n ≤ 99999 = omega arith in
     let back : value_of (decimal n) ≡ n = digits_value-decimal numerals n (omega arith) in

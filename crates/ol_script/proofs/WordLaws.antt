@@ -1,7 +1,8 @@
 -- A word that is read is spelled so, and a word that is spelled so is read.
 use Rattle.std.specs.Prelude.{Bool, List, None, Option, Some, [], bytes_eq, decimal, false, if◌then◌else◌, length, nat_le, nat_lt, not, option_map, refl, true, ℕ, ◌&&◌, ◌==◌, ◌∷◌, ◌≡◌, ◌≢◌, ◌≤◌, ◌||◌}
-use Rattle.std.specs.List.{AllByRecursion, IsDistinct, list_all, list_any}
-use Rattle.std.proofs.Common.{ap, append-nil, arith, inl, inr, subst, sym, ◌∙◌}
+use Rattle.std.specs.List.{AllByRecursion, IsDistinct, join_with_byte, list_all, list_any}
+use Rattle.std.proofs.Common.{ap, arith, inl, inr, subst, sym, ◌∙◌}
+use Rattle.std.proofs.lemmas.List.Splits.{join_with_byte-slice_split}
 use Rattle.std.proofs.lemmas.Bool.{and_from, and_parts, eqb-true, le-leb, leb-true, lt-ltb, ltb-true, ne_eqb, not-true, or_cases, or_from, or_parts}
 use Rattle.std.proofs.lemmas.Fmt.{decimal_digit}
 use Rattle.std.proofs.lemmas.List.Folds.{list_all-append}
@@ -16,11 +17,11 @@ use Rattle.ol_values.specs.declared.row.Row.{Row}
 use Rattle.ol_values.specs.Config.{begins_small, is_digit, is_name, is_small_letter}
 use Rattle.ol_values.specs.Text.{actor_text, is_plain}
 use Rattle.ol_script.proofs.NumberLaws.{number_again, number_digits, number_takes}
-use Rattle.ol_script.proofs.PieceLaws.{joined-pieces, lacks, lacks_by, pieces-joined, pieces_whole}
+use Rattle.ol_script.proofs.PieceLaws.{lacks, lacks_by, pieces-joined, pieces_whole}
 use Rattle.ol_script.proofs.Steps.{bind_some, chosen, map_some}
-use Rattle.ol_script.specs.Pieces.{joined, pieces_of, two_of}
-use Rattle.ol_script.specs.Spelling.{AreNames, IsActor, IsName, IsPlainRow, IsTarget, register_text, target_text}
-use Rattle.ol_script.specs.Words.{actor_by, actor_of, are_different, are_names, is_row, name_of, names_of, number_in, place_number, place_of, register_of, row_of, target_by, target_of}
+use Rattle.ol_script.specs.Pieces.{pieces_of, two_of}
+use Rattle.ol_script.specs.Spelling.{AreNames, IsActor, IsName, IsPlainRow, IsScriptTarget, register_text, target_text}
+use Rattle.ol_script.specs.Words.{actor_by, actor_of, are_different, are_names, is_row, name_of, names_in_words, number_between, place_by_parts, place_number, register_of, row_of, target_by_parts, target_in_text}
 
 -- ---- actors
 
@@ -32,9 +33,9 @@ record Lettered (make : ℕ → Actor) (letter least most : ℕ) (number : List 
   below : n ≤ most
   is : make n ≡ a
 
-lettered : (make : ℕ → Actor) (letter least most : ℕ) (number : List ℕ) (a : Actor) → most ≤ 99999 → option_map make (number_in least most number) ≡ Some a → Lettered make letter least most number a
+lettered : (make : ℕ → Actor) (letter least most : ℕ) (number : List ℕ) (a : Actor) → most ≤ 99999 → option_map make (number_between least most number) ≡ Some a → Lettered make letter least most number a
 lettered make letter least most number a limit e =
-    let m = map_some (number_in least most number) make a e in
+    let m = map_some (number_between least most number) make a e in
     let t = number_takes least most number m.0 limit m.1 in
     record { n = m.0; digits = t.0; above = t.1; below = t.2; is = m.2 }
 
@@ -43,7 +44,7 @@ abbrev Actored : ℕ → List ℕ → Actor → Type 0
 Actored letter number a = (letter ∷ number ≡ actor_text a) × IsActor a
 
 numbered : (make : ℕ → Actor) (letter c least most : ℕ) (number : List ℕ) (a : Actor) → most ≤ 99999 → (letter == c) ≡ true
-    → ((n : ℕ) → least ≤ n → n ≤ most → Actored c (decimal n) (make n)) → option_map make (number_in least most number) ≡ Some a → Actored letter number a
+    → ((n : ℕ) → least ≤ n → n ≤ most → Actored c (decimal n) (make n)) → option_map make (number_between least most number) ≡ Some a → Actored letter number a
 numbered make letter c least most number a limit at made e =
     let l = lettered make letter least most number a limit e in
     let m : Actored c (decimal l.n) a = subst (λ (x : Actor). Actored c (decimal l.n) x) l.is (made l.n l.above l.below) in
@@ -80,7 +81,7 @@ actor_takes [] a e = absurd cc
 actor_takes (letter ∷ number) a e = actor_by_takes letter number a e
 
 pub actor_again : (a : Actor) → IsActor a → actor_of (actor_text a) ≡ Some a
-unfolding actor_by number_in
+unfolding actor_by number_between
 actor_again (Session k) is = ap (λ (o : Option ℕ). option_map (λ k. Session k) o) (number_again 1 16 k (omega arith) is.0 is.1)
 actor_again (Archiver k) is = ap (λ (o : Option ℕ). option_map (λ k. Archiver k) o) (number_again 1 4 k (omega arith) is.0 is.1)
 actor_again Backer is = refl
@@ -93,7 +94,7 @@ actor_again Warmer is = refl
 pub register_takes : (word : List ℕ) (reg : ℕ) → register_of word ≡ Some reg → (word ≡ register_text reg) × (reg ≤ 9)
 register_takes [] reg e = absurd cc
 register_takes (letter ∷ number) reg e =
-    elim (chosen (letter == 114) (number_in 0 9 number) None (Some reg) e) [
+    elim (chosen (letter == 114) (number_between 0 9 number) None (Some reg) e) [
       | inl g ↦
           let t = number_takes 0 9 number reg (omega arith) g.1 in
           (ap (λ (x : ℕ). x ∷ number) (eqb-true letter 114 g.0) ∙ ap (λ (x : List ℕ). 114 ∷ x) t.0, t.2)
@@ -149,7 +150,7 @@ unfolding IsDistinct
 distinct_again [] d = refl
 distinct_again (name ∷ names) d = and_from (not (list_any (bytes_eq name) names)) (are_different names) (ap not (apart_again name names d.0)) (distinct_again names d.1)
 
-pub names_takes : (words names : List (List ℕ)) → names_of words ≡ Some names → (words ≡ names) × AreNames names
+pub names_takes : (words names : List (List ℕ)) → names_in_words words ≡ Some names → (words ≡ names) × AreNames names
 names_takes words names e =
     let c = cond_some (are_names words) words names e in
     let some = and_parts (nat_le 1 (length words)) _ c.0 in
@@ -163,7 +164,7 @@ names_takes words names e =
     } in
     (c.1, subst (λ (x : List (List ℕ)). AreNames x) c.1 all)
 
-pub names_again : (names : List (List ℕ)) → AreNames names → names_of names ≡ Some names
+pub names_again : (names : List (List ℕ)) → AreNames names → names_in_words names ≡ Some names
 names_again names are =
     ap (λ b. if b then Some names else None)
     (and_from (nat_le 1 (length names)) _ (le-leb 1 (length names) are.some) (and_from (nat_le (length names) 16) _ (le-leb (length names) 16 are.few)
@@ -214,14 +215,14 @@ names_high (name ∷ names) e =
     and_from (is_high name) (list_all is_high names) (name_high name a.0) (names_high names a.1)
 
 -- pieces with a colon between them
-joined_high : (piece : List ℕ) (pieces : List (List ℕ)) → is_high piece ≡ true → list_all is_high pieces ≡ true → is_high (joined 58 (piece ∷ pieces)) ≡ true
-joined_high piece [] e all = ap is_high (append-nil piece) ∙ e
+joined_high : (piece : List ℕ) (pieces : List (List ℕ)) → is_high piece ≡ true → list_all is_high pieces ≡ true → is_high (join_with_byte 58 (piece ∷ pieces)) ≡ true
+joined_high piece [] e all = e
 joined_high piece (next ∷ pieces) e all =
     let a = and_parts (is_high next) (list_all is_high pieces) all in
-    list_all-append (λ b. nat_lt 32 b) piece (58 ∷ joined 58 (next ∷ pieces))
-    ∙ and_from (is_high piece) (is_high (58 ∷ joined 58 (next ∷ pieces))) e (joined_high next pieces a.0 a.1)
+    list_all-append (λ b. nat_lt 32 b) piece (58 ∷ join_with_byte 58 (next ∷ pieces))
+    ∙ and_from (is_high piece) (is_high (58 ∷ join_with_byte 58 (next ∷ pieces))) e (joined_high next pieces a.0 a.1)
 
-pub target_high : (target : Target) → IsTarget target → is_high (target_text target) ≡ true
+pub target_high : (target : Target) → IsScriptTarget target → is_high (target_text target) ≡ true
 target_high (Reg reg) is = number_high reg (omega arith)
 target_high (At space page slot) is =
     joined_high space (decimal page ∷ decimal slot ∷ []) (name_high space is.0)
@@ -251,8 +252,8 @@ two_is (a ∷ []) w e = absurd cc
 two_is (a ∷ b ∷ []) w e = let is : (a, b) ≡ w = same_Some (a, b) w e in ap (λ (p : List ℕ × List ℕ). p.0 ∷ p.1 ∷ []) is
 two_is (a ∷ b ∷ c ∷ pieces) w e = absurd cc
 
-place_takes : (word : List ℕ) (parts : List (List ℕ)) (t : Target) → place_of word parts ≡ Some t → (joined 58 (word ∷ parts) ≡ target_text t) × IsTarget t
-unfolding place_of
+place_takes : (word : List ℕ) (parts : List (List ℕ)) (t : Target) → place_by_parts word parts ≡ Some t → (join_with_byte 58 (word ∷ parts) ≡ target_text t) × IsScriptTarget t
+unfolding place_by_parts
 place_takes word parts t e =
     let w = bind_some (two_of parts) _ t e in
     let s = bind_some (name_of word) _ t w.2 in
@@ -265,31 +266,31 @@ place_takes word parts t e =
     let one : word ∷ parts ≡ s.0 ∷ decimal p.0 ∷ decimal n.0 ∷ [] =
     ap (λ (l : List (List ℕ)). word ∷ l) (two_is parts w.0 w.1) ∙ ap (λ (x : List ℕ). x ∷ w.0.0 ∷ w.0.1 ∷ []) space.0
     ∙ ap (λ (x : List ℕ). s.0 ∷ x ∷ w.0.1 ∷ []) page.0 ∙ ap (λ (x : List ℕ). s.0 ∷ decimal p.0 ∷ x ∷ []) slot.0 in
-    let made : (joined 58 (word ∷ parts) ≡ target_text (At s.0 p.0 n.0)) × IsTarget (At s.0 p.0 n.0) = (ap (joined 58) one, (space.1, page.2, slot.2)) in
-    subst (λ (x : Target). (joined 58 (word ∷ parts) ≡ target_text x) × IsTarget x) is made
+    let made : (join_with_byte 58 (word ∷ parts) ≡ target_text (At s.0 p.0 n.0)) × IsScriptTarget (At s.0 p.0 n.0) = (ap (join_with_byte 58) one, (space.1, page.2, slot.2)) in
+    subst (λ (x : Target). (join_with_byte 58 (word ∷ parts) ≡ target_text x) × IsScriptTarget x) is made
 
-target_by_takes : (pieces : List (List ℕ)) (t : Target) → target_by pieces ≡ Some t → (joined 58 pieces ≡ target_text t) × IsTarget t
-unfolding target_by
+target_by_takes : (pieces : List (List ℕ)) (t : Target) → target_by_parts pieces ≡ Some t → (join_with_byte 58 pieces ≡ target_text t) × IsScriptTarget t
+unfolding target_by_parts
 target_by_takes [] t e = absurd cc
 target_by_takes (word ∷ []) t e =
     let m = map_some (register_of word) (λ reg. Reg reg) t e in
     let r = register_takes word m.0 m.1 in
-    let made : (joined 58 (word ∷ []) ≡ target_text (Reg m.0)) × IsTarget (Reg m.0) = (append-nil word ∙ r.0, r.1) in
-    subst (λ (x : Target). (joined 58 (word ∷ []) ≡ target_text x) × IsTarget x) m.2 made
+    let made : (join_with_byte 58 (word ∷ []) ≡ target_text (Reg m.0)) × IsScriptTarget (Reg m.0) = r in
+    subst (λ (x : Target). (join_with_byte 58 (word ∷ []) ≡ target_text x) × IsScriptTarget x) m.2 made
 target_by_takes (word ∷ next ∷ parts) t e = place_takes word (next ∷ parts) t e
 
-pub target_takes : (word : List ℕ) (t : Target) → target_of word ≡ Some t → (word ≡ target_text t) × IsTarget t
+pub target_takes : (word : List ℕ) (t : Target) → target_in_text word ≡ Some t → (word ≡ target_text t) × IsScriptTarget t
 target_takes word t e =
     let r = target_by_takes (pieces_of 58 word) t e in
-    (sym (joined-pieces 58 word) ∙ r.0, r.1)
+    (sym (join_with_byte-slice_split 58 word) ∙ r.0, r.1)
 
-pub target_again : (t : Target) → IsTarget t → target_of (target_text t) ≡ Some t
-unfolding target_by place_of
+pub target_again : (t : Target) → IsScriptTarget t → target_in_text (target_text t) ≡ Some t
+unfolding target_by_parts place_by_parts
 target_again (Reg reg) is =
-    ap target_by (pieces_whole 58 (register_text reg) (number_lacks reg (omega arith)))
+    ap target_by_parts (pieces_whole 58 (register_text reg) (number_lacks reg (omega arith)))
     ∙ ap (λ (o : Option ℕ). option_map (λ reg. Reg reg) o) (register_again reg is)
 target_again (At space page slot) is =
     let rest : list_all (lacks 58) (decimal page ∷ decimal slot ∷ []) ≡ true =
     and_from (lacks 58 (decimal page)) _ (number_lacks page is.1) (and_from (lacks 58 (decimal slot)) true (number_lacks slot is.2) refl) in
-    ap target_by (pieces-joined 58 space (decimal page ∷ decimal slot ∷ []) (name_lacks space is.0) rest)
+    ap target_by_parts (pieces-joined 58 space (decimal page ∷ decimal slot ∷ []) (name_lacks space is.0) rest)
     ∙ rw (name_again space is.0, number_again 0 99999 page (omega arith) (omega arith) is.1, number_again 0 99999 slot (omega arith) (omega arith) is.2) refl

@@ -4,9 +4,9 @@ use Rattle.ol_values.specs.declared.history.Actor.{Actor}
 use Rattle.ol_values.specs.declared.history.Actor.TheVariants.{Archiver, Backer, Checkpointer, Flusher, Session, Warmer}
 use Rattle.ol_values.specs.declared.line.Form.{Form}
 use Rattle.ol_values.specs.declared.line.Form.TheVariants.{Archive, Backup, Begin, Cancel, Checkpoint, Clean, Commit, Delete, End, Insert, List as ListForm, Read, Restore, Rollback, Start, Switch, Turn, Update}
-use Rattle.ol_script.specs.Pieces.{first_of, one_of, three_of, two_of}
+use Rattle.ol_script.specs.Pieces.{first_piece, one_of, three_of, two_of}
 use Rattle.ol_bytes.specs.Reading.{◌>>=◌}
-use Rattle.ol_script.specs.Words.{name_of, names_of, number_in, place_number, register_of, row_of, target_of}
+use Rattle.ol_script.specs.Words.{name_of, names_in_words, number_between, place_number, register_of, row_of, target_in_text}
 
 -- a form of one word
 abbrev pub bare : Form → List (List ℕ) → Option Form
@@ -24,20 +24,20 @@ insert_of words = do
 unfoldable pub update_of : List (List ℕ) → Option Form
 update_of words = do
   w ← two_of words
-  target ← target_of w.0
+  target ← target_in_text w.0
   row ← row_of w.1
   Some (Update target row)
 
 unfoldable pub delete_of : List (List ℕ) → Option Form
 delete_of words = do
   word ← one_of words
-  target ← target_of word
+  target ← target_in_text word
   Some (Delete target)
 
 unfoldable pub read_of : List (List ℕ) → Option Form
 read_of words = do
   word ← one_of words
-  target ← target_of word
+  target ← target_in_text word
   Some (Read target)
 
 unfoldable pub list_of : List (List ℕ) → Option Form
@@ -60,26 +60,26 @@ session_form verb words =
     else (if bytes_eq verb (codes "rollback") then bare Rollback words else None)))))))
 
 -- the level of an archive and its spaces
-unfoldable pub archive_of : List (List ℕ) → Option (ℕ × List (List ℕ))
-archive_of words = do
-  w ← first_of words
-  level ← number_in 0 2 w.0
-  spaces ← names_of w.1
+unfoldable pub level_and_spaces : List (List ℕ) → Option (ℕ × List (List ℕ))
+level_and_spaces words = do
+  w ← first_piece words
+  level ← number_between 0 2 w.0
+  spaces ← names_in_words w.1
   Some (level, spaces)
 
 -- a number of turns
 unfoldable pub count_of : List (List ℕ) → Option ℕ
 count_of words = do
   word ← one_of words
-  number_in 1 65535 word
+  number_between 1 65535 word
 
 unfoldable pub archiver_form : List ℕ → List (List ℕ) → Option Form
 archiver_form verb words =
-    if bytes_eq verb (codes "start") then option_map (λ (p : ℕ × List (List ℕ)). Start p.0 p.1) (archive_of words)
+    if bytes_eq verb (codes "start") then option_map (λ (p : ℕ × List (List ℕ)). Start p.0 p.1) (level_and_spaces words)
     else (if bytes_eq verb (codes "turn") then option_map (λ n. Turn n) (count_of words)
     else (if bytes_eq verb (codes "end") then bare End words
     else (if bytes_eq verb (codes "cancel") then bare Cancel words
-    else (if bytes_eq verb (codes "archive") then option_map (λ (p : ℕ × List (List ℕ)). Archive p.0 p.1) (archive_of words) else None))))
+    else (if bytes_eq verb (codes "archive") then option_map (λ (p : ℕ × List (List ℕ)). Archive p.0 p.1) (level_and_spaces words) else None))))
 
 unfoldable pub backer_form : List ℕ → List (List ℕ) → Option Form
 backer_form verb words =

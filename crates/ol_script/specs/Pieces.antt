@@ -1,34 +1,21 @@
 -- A text in pieces: lines round line feeds, words round blanks.
-use Rattle.std.specs.Prelude.{List, None, Option, Some, [], flat_map, if◌then◌else◌, ℕ, ◌++◌, ◌==◌, ◌∷◌}
-
--- b, and then the first of these pieces
-abbrev pub with_byte : ℕ → List (List ℕ) → List (List ℕ)
-with_byte b [] = (b ∷ []) ∷ []
-with_byte b (piece ∷ pieces) = (b ∷ piece) ∷ pieces
+use Rattle.std.specs.List.{slice_split}
+use Rattle.std.specs.Prelude.{List, None, Option, Some, [], length, ℕ, ◌+◌, ◌==◌, ◌∷◌}
+use denote.Ref.{Bor}
 
 -- the pieces of a text round a byte that parts them, one more than the text has of that byte
 abbrev pub pieces_of : ℕ → List ℕ → List (List ℕ)
-pieces_of mark [] = [] ∷ []
-pieces_of mark (b ∷ text) = if b == mark then [] ∷ pieces_of mark text else with_byte b (pieces_of mark text)
+pieces_of mark text = slice_split (λ b. b == mark) text
 
--- pieces, each behind the byte that parts them
-abbrev pub marked : ℕ → List (List ℕ) → List ℕ
-marked mark pieces = flat_map (λ (piece : List ℕ). mark ∷ piece) pieces
-
--- a text by its pieces, with the byte that parts them between any two
-abbrev pub joined : ℕ → List (List ℕ) → List ℕ
-joined mark [] = []
-joined mark (piece ∷ pieces) = piece ++ marked mark pieces
-
--- the pieces behind a first one: none where nothing is left, else those behind the byte that parts them
-abbrev pub pieces_behind : ℕ → List ℕ → List (List ℕ)
-pieces_behind mark [] = []
-pieces_behind mark (b ∷ text) = pieces_of mark text
+-- how many bytes are behind a piece, the byte that parts them counted
+abbrev pub count_behind : Option (Bor (List ℕ)) → ℕ
+count_behind None = 0
+count_behind (Some text) = 1 + length text.now
 
 -- the first piece, and those behind it
-abbrev pub first_of : List (List ℕ) → Option (List ℕ × List (List ℕ))
-first_of [] = None
-first_of (piece ∷ pieces) = Some (piece, pieces)
+abbrev pub first_piece : List (List ℕ) → Option (List ℕ × List (List ℕ))
+first_piece [] = None
+first_piece (piece ∷ pieces) = Some (piece, pieces)
 
 -- the only piece
 abbrev pub one_of : List (List ℕ) → Option (List ℕ)

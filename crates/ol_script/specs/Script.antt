@@ -4,7 +4,7 @@ use Rattle.ol_values.specs.declared.history.Actor.{Actor}
 use Rattle.ol_values.specs.declared.line.Form.{Form}
 use Rattle.ol_values.specs.declared.line.Line.{Line}
 use Rattle.ol_script.specs.Forms.{form_of}
-use Rattle.ol_script.specs.Pieces.{first_of, pieces_of}
+use Rattle.ol_script.specs.Pieces.{first_piece, pieces_of}
 use Rattle.ol_bytes.specs.Reading.{◌>>=◌}
 use Rattle.ol_script.specs.Words.{actor_of}
 
@@ -14,25 +14,29 @@ line_with k actor form = record { actor = actor; number = k; form = form }
 -- the line of these words: an actor, a verb and its arguments
 unfoldable pub line_by : ℕ → List (List ℕ) → Option Line
 line_by k words = do
-  w ← first_of words
+  w ← first_piece words
   actor ← actor_of w.0
-  v ← first_of w.1
+  v ← first_piece w.1
   form ← form_of actor v.0 v.1
   Some (line_with k actor form)
 
 -- the line of number k, of at most 255 bytes, with single blanks between its words
-abbrev pub line_of : ℕ → List ℕ → Option Line
-line_of k bytes = if nat_lt 255 (length bytes) then None else line_by k (pieces_of 32 bytes)
+abbrev pub line_in_text : ℕ → List ℕ → Option Line
+line_in_text k bytes = if nat_lt 255 (length bytes) then None else line_by k (pieces_of 32 bytes)
 
 -- a script has at most 65,535 lines
 abbrev pub line_at : ℕ → List ℕ → Option Line
-line_at k bytes = if nat_lt 65535 k then None else line_of k bytes
+line_at k bytes = if nat_lt 65535 k then None else line_in_text k bytes
 
--- a line, and then those behind it
-abbrev pub line_then : ℕ → Option Line → Result (List Line) ℕ → Result (List Line) ℕ
-line_then k None rest = Err k
-line_then k (Some line) (Ok lines) = Ok (line ∷ lines)
-line_then k (Some line) (Err n) = Err n
+-- a line in front of those behind it
+abbrev pub with_line : Line → Result (List Line) ℕ → Result (List Line) ℕ
+with_line line (Ok lines) = Ok (line ∷ lines)
+with_line line (Err n) = Err n
+
+-- the line of number k, if there is one, and then those behind it
+abbrev pub line_before : ℕ → Option Line → Result (List Line) ℕ → Result (List Line) ℕ
+line_before k None rest = Err k
+line_before k (Some line) rest = with_line line rest
 
 -- nothing stands behind the last line feed
 abbrev pub ends_at : ℕ → List ℕ → Result (List Line) ℕ
@@ -43,7 +47,7 @@ ends_at k (b ∷ piece) = Err k
 abbrev pub script_from : ℕ → List (List ℕ) → Result (List Line) ℕ
 script_from k [] = Err k
 script_from k (piece ∷ []) = ends_at k piece
-script_from k (piece ∷ next ∷ pieces) = line_then k (line_at k piece) (script_from (k + 1) (next ∷ pieces))
+script_from k (piece ∷ next ∷ pieces) = line_before k (line_at k piece) (script_from (k + 1) (next ∷ pieces))
 
 -- the lines of a script's text, or the number of the first that is off the grammar
 abbrev pub script_of : List ℕ → Result (List Line) ℕ

@@ -1,5 +1,5 @@
 -- The one spelling of a line, and which lines there are.
-use Rattle.std.specs.List.{AllPairs, list_all}
+use Rattle.std.specs.List.{AllPairs, join_with_byte, list_all}
 use Rattle.std.specs.Prelude.{IsTrue, List, [], codes, decimal, flat_map, length, ℕ, ◌++◌, ◌+◌, ◌∷◌, ◌≡◌, ◌≢◌, ◌≤◌}
 use Rattle.ol_values.specs.declared.event.Target.{Target}
 use Rattle.ol_values.specs.declared.event.Target.TheVariants.{At, Reg}
@@ -11,7 +11,6 @@ use Rattle.ol_values.specs.declared.line.Line.{Line}
 use Rattle.ol_values.specs.declared.row.Row.{Row}
 use Rattle.ol_values.specs.Config.{is_name}
 use Rattle.ol_values.specs.Text.{actor_text, is_plain}
-use Rattle.ol_script.specs.Pieces.{joined}
 
 abbrev pub register_text : ℕ → List ℕ
 register_text reg = 114 ∷ decimal reg
@@ -19,7 +18,7 @@ register_text reg = 114 ∷ decimal reg
 -- a register, or a place as SPACE:PAGE:SLOT
 abbrev pub target_text : Target → List ℕ
 target_text (Reg reg) = register_text reg
-target_text (At space page slot) = joined 58 (space ∷ decimal page ∷ decimal slot ∷ [])
+target_text (At space page slot) = join_with_byte 58 (space ∷ decimal page ∷ decimal slot ∷ [])
 
 -- the verb of a form
 abbrev pub verb_text : Form → List ℕ
@@ -59,7 +58,7 @@ words_text _ = []
 
 -- the one spelling of a line: its words, with single blanks between them
 abbrev pub line_text : Actor → Form → List ℕ
-line_text actor form = joined 32 (actor_text actor ∷ verb_text form ∷ words_text form)
+line_text actor form = join_with_byte 32 (actor_text actor ∷ verb_text form ∷ words_text form)
 
 abbrev pub IsName : List ℕ → Type 0
 IsName name = IsTrue (is_name name)
@@ -69,9 +68,9 @@ abbrev pub IsPlainRow : Row → Type 0
 IsPlainRow row = (length row ≤ 63) × IsTrue (list_all is_plain row)
 
 -- the register is one of ten; the page and the slot have at most five digits
-abbrev pub IsTarget : Target → Type 0
-IsTarget (Reg reg) = reg ≤ 9
-IsTarget (At space page slot) = IsName space × (page ≤ 99999) × (slot ≤ 99999)
+abbrev pub IsScriptTarget : Target → Type 0
+IsScriptTarget (Reg reg) = reg ≤ 9
+IsScriptTarget (At space page slot) = IsName space × (page ≤ 99999) × (slot ≤ 99999)
 
 -- 1 to 16 names, no two of them the same
 pub record AreNames (names : List (List ℕ)) : Type 0 where
@@ -91,9 +90,9 @@ IsCount n = (1 ≤ n) × (n ≤ 65535)
 abbrev pub IsSessionForm : Form → Type 0
 IsSessionForm Begin = Unit {0}
 IsSessionForm (Insert reg space row) = (reg ≤ 9) × IsName space × IsPlainRow row
-IsSessionForm (Update target row) = IsTarget target × IsPlainRow row
-IsSessionForm (Delete target) = IsTarget target
-IsSessionForm (Read target) = IsTarget target
+IsSessionForm (Update target row) = IsScriptTarget target × IsPlainRow row
+IsSessionForm (Delete target) = IsScriptTarget target
+IsSessionForm (Read target) = IsScriptTarget target
 IsSessionForm (ListForm space page) = IsName space × (page ≤ 99999)
 IsSessionForm Commit = Unit {0}
 IsSessionForm Rollback = Unit {0}

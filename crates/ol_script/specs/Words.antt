@@ -18,27 +18,27 @@ leads_well (b ∷ []) = true
 leads_well (b ∷ c ∷ bytes) = not (b == 48)
 
 -- a number in decimal, without leading zeros
-abbrev pub is_number : List ℕ → Bool
-is_number word = leads_well word && list_all is_digit word
+abbrev pub is_decimal : List ℕ → Bool
+is_decimal word = leads_well word && list_all is_digit word
 
 -- the number that these digits stand for
 abbrev pub value_of : List ℕ → ℕ
 value_of word = fold (λ (n b : ℕ). n * 10 + (b - 48)) 0 word
 
 -- a number of a range, its ends included
-unfoldable pub number_in : ℕ → ℕ → List ℕ → Option ℕ
-number_in least most word =
-    if is_number word && (nat_le least (value_of word) && nat_le (value_of word) most) then Some (value_of word) else None
+unfoldable pub number_between : ℕ → ℕ → List ℕ → Option ℕ
+number_between least most word =
+    if is_decimal word && (nat_le least (value_of word) && nat_le (value_of word) most) then Some (value_of word) else None
 
 -- an actor by its letter and the number behind it: s1 to s16, a1 to a4, l1, f1, c1 and w1
 unfoldable pub actor_by : ℕ → List ℕ → Option Actor
 actor_by letter number =
-    if letter == 115 then option_map (λ k. Session k) (number_in 1 16 number)
-    else (if letter == 97 then option_map (λ k. Archiver k) (number_in 1 4 number)
-    else (if letter == 108 then option_map (λ k. Backer) (number_in 1 1 number)
-    else (if letter == 102 then option_map (λ k. Flusher) (number_in 1 1 number)
-    else (if letter == 99 then option_map (λ k. Checkpointer) (number_in 1 1 number)
-    else (if letter == 119 then option_map (λ k. Warmer) (number_in 1 1 number) else None)))))
+    if letter == 115 then option_map (λ k. Session k) (number_between 1 16 number)
+    else (if letter == 97 then option_map (λ k. Archiver k) (number_between 1 4 number)
+    else (if letter == 108 then option_map (λ k. Backer) (number_between 1 1 number)
+    else (if letter == 102 then option_map (λ k. Flusher) (number_between 1 1 number)
+    else (if letter == 99 then option_map (λ k. Checkpointer) (number_between 1 1 number)
+    else (if letter == 119 then option_map (λ k. Warmer) (number_between 1 1 number) else None)))))
 
 abbrev pub actor_of : List ℕ → Option Actor
 actor_of [] = None
@@ -47,7 +47,7 @@ actor_of (letter ∷ number) = actor_by letter number
 -- a register: r0 to r9
 abbrev pub register_of : List ℕ → Option ℕ
 register_of [] = None
-register_of (letter ∷ number) = if letter == 114 then number_in 0 9 number else None
+register_of (letter ∷ number) = if letter == 114 then number_between 0 9 number else None
 
 -- the name of a space
 abbrev pub name_of : List ℕ → Option (List ℕ)
@@ -55,11 +55,11 @@ name_of word = if is_name word then Some word else None
 
 -- a page of a space, or a slot of a page, as a script may name it: 0 to 99,999
 abbrev pub place_number : List ℕ → Option ℕ
-place_number word = number_in 0 99999 word
+place_number word = number_between 0 99999 word
 
 -- a place, as SPACE:PAGE:SLOT, by its first part and those behind it
-unfoldable pub place_of : List ℕ → List (List ℕ) → Option Target
-place_of word parts = do
+unfoldable pub place_by_parts : List ℕ → List (List ℕ) → Option Target
+place_by_parts word parts = do
   numbers ← two_of parts
   space ← name_of word
   page ← place_number numbers.0
@@ -67,13 +67,13 @@ place_of word parts = do
   Some (At space page slot)
 
 -- a register, or a place, by its parts round the colons
-unfoldable pub target_by : List (List ℕ) → Option Target
-target_by [] = None
-target_by (word ∷ []) = option_map (λ reg. Reg reg) (register_of word)
-target_by (word ∷ next ∷ parts) = place_of word (next ∷ parts)
+unfoldable pub target_by_parts : List (List ℕ) → Option Target
+target_by_parts [] = None
+target_by_parts (word ∷ []) = option_map (λ reg. Reg reg) (register_of word)
+target_by_parts (word ∷ next ∷ parts) = place_by_parts word (next ∷ parts)
 
-abbrev pub target_of : List ℕ → Option Target
-target_of word = target_by (pieces_of 58 word)
+abbrev pub target_in_text : List ℕ → Option Target
+target_in_text word = target_by_parts (pieces_of 58 word)
 
 -- bytes that a row of a script may have
 abbrev pub is_row : List ℕ → Bool
@@ -93,5 +93,5 @@ are_different (name ∷ names) = not (list_any (bytes_eq name) names) && are_dif
 abbrev pub are_names : List (List ℕ) → Bool
 are_names words = nat_le 1 (length words) && (nat_le (length words) 16 && (list_all is_name words && are_different words))
 
-abbrev pub names_of : List (List ℕ) → Option (List (List ℕ))
-names_of words = if are_names words then Some words else None
+abbrev pub names_in_words : List (List ℕ) → Option (List (List ℕ))
+names_in_words words = if are_names words then Some words else None

@@ -1,12 +1,14 @@
 //! What a line asks for, by its actor, its verb and the words behind it.
 
 ghost use Rattle.std.specs.Prelude.{◌≡◌};
-ghost use Rattle.ol_script.specs.Forms.{archive_of, archiver_form, backer_form, bare, checkpointer_form, count_of, delete_of, flusher_form, form_of, insert_of, list_of, read_of, restore_of, session_form, update_of, warmer_form};
-ghost use Rattle.ol_script.specs.Pieces.{pieces_behind};
+ghost use Rattle.ol_script.specs.Forms.{archiver_form, backer_form, bare, checkpointer_form, count_of, delete_of, flusher_form, form_of, insert_of, level_and_spaces, list_of, read_of, restore_of, session_form, update_of, warmer_form};
+ghost use Rattle.ol_words.specs.Words.{pieces_behind};
 ghost use Rattle.ol_bytes.specs.Reading.{Gives};
 
 use crate::pieces::{next, one, three, two};
-use crate::words::{name_of, names_of, number_in, place_number, register_of, row_of, target_of};
+use crate::words::{
+    name_of, names_in_words, number_between, place_number, register_of, row_of, target_in_text,
+};
 use ol_values::{Actor, Form, Labels};
 
 // The verbs of lines.
@@ -47,8 +49,8 @@ const CHECKPOINT: &[u8] = b"checkpoint";
 const RESTORE: &[u8] = b"restore";
 
 // A form of one word.
-fn bare(form: Form, behind: &[u8]) -> Option<Form>
-    ensures { Gives (λ f. f) result (bare form (pieces_behind 32 behind.now)) }
+fn bare(form: Form, behind: Option<&[u8]>) -> Option<Form>
+    ensures { Gives (λ f. f) result (bare form (pieces_behind 32 behind.entry)) }
 {
     match next(b' ', behind) {
         None => Some(form),
@@ -57,8 +59,8 @@ fn bare(form: Form, behind: &[u8]) -> Option<Form>
 }
 
 #[tactic(auto, unfolding(crate::specs::Forms::insert_of))]
-fn insert_of(behind: &[u8]) -> Option<Form>
-    ensures { Gives (λ f. f) result (insert_of (pieces_behind 32 behind.now)) }
+fn insert_of(behind: Option<&[u8]>) -> Option<Form>
+    ensures { Gives (λ f. f) result (insert_of (pieces_behind 32 behind.entry)) }
 {
     let (reg, space, row) = three(b' ', behind)?;
     let reg = register_of(reg)?;
@@ -68,34 +70,34 @@ fn insert_of(behind: &[u8]) -> Option<Form>
 }
 
 #[tactic(auto, unfolding(crate::specs::Forms::update_of))]
-fn update_of(behind: &[u8]) -> Option<Form>
-    ensures { Gives (λ f. f) result (update_of (pieces_behind 32 behind.now)) }
+fn update_of(behind: Option<&[u8]>) -> Option<Form>
+    ensures { Gives (λ f. f) result (update_of (pieces_behind 32 behind.entry)) }
 {
     let (target, row) = two(b' ', behind)?;
-    let target = target_of(target)?;
+    let target = target_in_text(target)?;
     let row = row_of(row)?;
     Some(Form::Update { target, row })
 }
 
 #[tactic(auto, unfolding(crate::specs::Forms::delete_of))]
-fn delete_of(behind: &[u8]) -> Option<Form>
-    ensures { Gives (λ f. f) result (delete_of (pieces_behind 32 behind.now)) }
+fn delete_of(behind: Option<&[u8]>) -> Option<Form>
+    ensures { Gives (λ f. f) result (delete_of (pieces_behind 32 behind.entry)) }
 {
-    let target = target_of(one(b' ', behind)?)?;
+    let target = target_in_text(one(b' ', behind)?)?;
     Some(Form::Delete { target })
 }
 
 #[tactic(auto, unfolding(crate::specs::Forms::read_of))]
-fn read_of(behind: &[u8]) -> Option<Form>
-    ensures { Gives (λ f. f) result (read_of (pieces_behind 32 behind.now)) }
+fn read_of(behind: Option<&[u8]>) -> Option<Form>
+    ensures { Gives (λ f. f) result (read_of (pieces_behind 32 behind.entry)) }
 {
-    let target = target_of(one(b' ', behind)?)?;
+    let target = target_in_text(one(b' ', behind)?)?;
     Some(Form::Read { target })
 }
 
 #[tactic(auto, unfolding(crate::specs::Forms::list_of))]
-fn list_of(behind: &[u8]) -> Option<Form>
-    ensures { Gives (λ f. f) result (list_of (pieces_behind 32 behind.now)) }
+fn list_of(behind: Option<&[u8]>) -> Option<Form>
+    ensures { Gives (λ f. f) result (list_of (pieces_behind 32 behind.entry)) }
 {
     let (space, page) = two(b' ', behind)?;
     let space = name_of(space)?;
@@ -104,8 +106,8 @@ fn list_of(behind: &[u8]) -> Option<Form>
 }
 
 #[tactic(auto, unfolding(crate::specs::Forms::session_form))]
-fn session_form(verb: &[u8], behind: &[u8]) -> Option<Form>
-    ensures { Gives (λ f. f) result (session_form verb.now (pieces_behind 32 behind.now)) }
+fn session_form(verb: &[u8], behind: Option<&[u8]>) -> Option<Form>
+    ensures { Gives (λ f. f) result (session_form verb.now (pieces_behind 32 behind.entry)) }
 {
     if verb == BEGIN {
         bare(Form::Begin, behind)
@@ -129,31 +131,31 @@ fn session_form(verb: &[u8], behind: &[u8]) -> Option<Form>
 }
 
 // The level of an archive and its spaces.
-#[tactic(auto, unfolding(crate::specs::Forms::archive_of))]
-fn archive_of(behind: &[u8]) -> Option<(u8, Labels)>
-    ensures { Gives (λ p. (p.0, p.1)) result (archive_of (pieces_behind 32 behind.now)) }
+#[tactic(auto, unfolding(crate::specs::Forms::level_and_spaces))]
+fn level_and_spaces(behind: Option<&[u8]>) -> Option<(u8, Labels)>
+    ensures { Gives (λ p. (p.0, p.1)) result (level_and_spaces (pieces_behind 32 behind.entry)) }
 {
     let (level, behind) = next(b' ', behind)?;
-    let level = number_in(0, 2, level)? as u8;
-    let spaces = names_of(behind)?;
+    let level = number_between(0, 2, level)? as u8;
+    let spaces = names_in_words(behind)?;
     Some((level, spaces))
 }
 
 // A number of turns.
 #[tactic(auto, unfolding(crate::specs::Forms::count_of))]
-fn count_of(behind: &[u8]) -> Option<u16>
-    ensures { Gives (λ n. n) result (count_of (pieces_behind 32 behind.now)) }
+fn count_of(behind: Option<&[u8]>) -> Option<u16>
+    ensures { Gives (λ n. n) result (count_of (pieces_behind 32 behind.entry)) }
 {
-    let count = number_in(1, 65_535, one(b' ', behind)?)?;
+    let count = number_between(1, 65_535, one(b' ', behind)?)?;
     Some(count as u16)
 }
 
 #[tactic(auto, unfolding(crate::specs::Forms::archiver_form))]
-fn archiver_form(verb: &[u8], behind: &[u8]) -> Option<Form>
-    ensures { Gives (λ f. f) result (archiver_form verb.now (pieces_behind 32 behind.now)) }
+fn archiver_form(verb: &[u8], behind: Option<&[u8]>) -> Option<Form>
+    ensures { Gives (λ f. f) result (archiver_form verb.now (pieces_behind 32 behind.entry)) }
 {
     if verb == START {
-        let (level, spaces) = archive_of(behind)?;
+        let (level, spaces) = level_and_spaces(behind)?;
         Some(Form::Start { level, spaces })
     } else if verb == TURN {
         let count = count_of(behind)?;
@@ -163,7 +165,7 @@ fn archiver_form(verb: &[u8], behind: &[u8]) -> Option<Form>
     } else if verb == CANCEL {
         bare(Form::Cancel, behind)
     } else if verb == ARCHIVE {
-        let (level, spaces) = archive_of(behind)?;
+        let (level, spaces) = level_and_spaces(behind)?;
         Some(Form::Archive { level, spaces })
     } else {
         None
@@ -171,8 +173,8 @@ fn archiver_form(verb: &[u8], behind: &[u8]) -> Option<Form>
 }
 
 #[tactic(auto, unfolding(crate::specs::Forms::backer_form))]
-fn backer_form(verb: &[u8], behind: &[u8]) -> Option<Form>
-    ensures { Gives (λ f. f) result (backer_form verb.now (pieces_behind 32 behind.now)) }
+fn backer_form(verb: &[u8], behind: Option<&[u8]>) -> Option<Form>
+    ensures { Gives (λ f. f) result (backer_form verb.now (pieces_behind 32 behind.entry)) }
 {
     if verb == BACKUP {
         let count = count_of(behind)?;
@@ -185,8 +187,8 @@ fn backer_form(verb: &[u8], behind: &[u8]) -> Option<Form>
 }
 
 #[tactic(auto, unfolding(crate::specs::Forms::flusher_form))]
-fn flusher_form(verb: &[u8], behind: &[u8]) -> Option<Form>
-    ensures { Gives (λ f. f) result (flusher_form verb.now (pieces_behind 32 behind.now)) }
+fn flusher_form(verb: &[u8], behind: Option<&[u8]>) -> Option<Form>
+    ensures { Gives (λ f. f) result (flusher_form verb.now (pieces_behind 32 behind.entry)) }
 {
     if verb == CLEAN {
         let count = count_of(behind)?;
@@ -197,8 +199,8 @@ fn flusher_form(verb: &[u8], behind: &[u8]) -> Option<Form>
 }
 
 #[tactic(auto, unfolding(crate::specs::Forms::checkpointer_form))]
-fn checkpointer_form(verb: &[u8], behind: &[u8]) -> Option<Form>
-    ensures { Gives (λ f. f) result (checkpointer_form verb.now (pieces_behind 32 behind.now)) }
+fn checkpointer_form(verb: &[u8], behind: Option<&[u8]>) -> Option<Form>
+    ensures { Gives (λ f. f) result (checkpointer_form verb.now (pieces_behind 32 behind.entry)) }
 {
     if verb == CHECKPOINT {
         bare(Form::Checkpoint, behind)
@@ -208,16 +210,16 @@ fn checkpointer_form(verb: &[u8], behind: &[u8]) -> Option<Form>
 }
 
 #[tactic(auto, unfolding(crate::specs::Forms::restore_of))]
-fn restore_of(behind: &[u8]) -> Option<Form>
-    ensures { Gives (λ f. f) result (restore_of (pieces_behind 32 behind.now)) }
+fn restore_of(behind: Option<&[u8]>) -> Option<Form>
+    ensures { Gives (λ f. f) result (restore_of (pieces_behind 32 behind.entry)) }
 {
     let space = name_of(one(b' ', behind)?)?;
     Some(Form::Restore { space })
 }
 
 #[tactic(auto, unfolding(crate::specs::Forms::warmer_form))]
-fn warmer_form(verb: &[u8], behind: &[u8]) -> Option<Form>
-    ensures { Gives (λ f. f) result (warmer_form verb.now (pieces_behind 32 behind.now)) }
+fn warmer_form(verb: &[u8], behind: Option<&[u8]>) -> Option<Form>
+    ensures { Gives (λ f. f) result (warmer_form verb.now (pieces_behind 32 behind.entry)) }
 {
     if verb == RESTORE {
         restore_of(behind)
@@ -228,8 +230,8 @@ fn warmer_form(verb: &[u8], behind: &[u8]) -> Option<Form>
 
 /// What an actor's line asks for: a verb, and the words behind it.
 #[tactic(auto, unfolding(crate::specs::Forms::form_of))]
-pub(crate) fn form_of(actor: Actor, verb: &[u8], behind: &[u8]) -> Option<Form>
-    ensures { Gives (λ f. f) result (form_of actor verb.now (pieces_behind 32 behind.now)) }
+pub(crate) fn form_of(actor: Actor, verb: &[u8], behind: Option<&[u8]>) -> Option<Form>
+    ensures { Gives (λ f. f) result (form_of actor verb.now (pieces_behind 32 behind.entry)) }
 {
     match actor {
         Actor::Session(_) => session_form(verb, behind),

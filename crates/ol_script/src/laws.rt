@@ -4,17 +4,17 @@ ghost use Rattle.std.specs.Prelude.{◌≡◌, ◌≤◌, List, ℕ, Ok, Some, l
 ghost use Rattle.ol_values.specs.declared.history.Actor.{Actor as ActorValue};
 ghost use Rattle.ol_values.specs.declared.line.Form.{Form as FormValue};
 ghost use Rattle.ol_values.specs.declared.line.Line.{Line as LineValue};
-ghost use Rattle.ol_script.specs.Script.{line_of, line_with, script_limit, script_of};
+ghost use Rattle.ol_script.specs.Script.{line_in_text, line_with, script_limit, script_of};
 ghost use Rattle.ol_script.specs.Spelling.{AreLinesFrom, IsLineForm, line_text, script_text};
 
 /// The spelling of a line, where it is short enough, is read as that line.
 pub fn spelled_line_is_read()
-    ensures { (k : ℕ) (actor : ActorValue) (form : FormValue) → IsLineForm actor form → length (line_text actor form) ≤ 255 → line_of k (line_text actor form) ≡ Some (line_with k actor form) }
+    ensures { (k : ℕ) (actor : ActorValue) (form : FormValue) → IsLineForm actor form → length (line_text actor form) ≤ 255 → line_in_text k (line_text actor form) ≡ Some (line_with k actor form) }
 {}
 
 /// A line that is read is in the grammar, and its spelling is what was read: each line has one spelling.
 pub fn read_line_is_spelled()
-    ensures { (k : ℕ) (bytes : List ℕ) (line : LineValue) → line_of k bytes ≡ Some line
+    ensures { (k : ℕ) (bytes : List ℕ) (line : LineValue) → line_in_text k bytes ≡ Some line
         → IsLineForm line.actor line.form × (bytes ≡ line_text line.actor line.form) × (length bytes ≤ 255) × (line.number ≡ k) }
 {}
 

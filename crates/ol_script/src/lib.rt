@@ -5,6 +5,7 @@ mod entry_line;
 mod forms;
 mod laws;
 mod pieces;
+mod reader;
 mod script;
 mod words;
 

@@ -1,26 +1,20 @@
 //! A script, read from its text.
 
-ghost use Rattle.std.specs.Prelude.{◌≡◌, ◌<◌, ◌≤◌, ◌+◌, ◌∷◌, [], ℕ, List, Ok, Err, Some, All, IfNone, IfOk, IfSome, IsErrOf, length, take};
+ghost use Rattle.std.specs.Prelude.{◌≡◌, ◌≤◌, ℕ, List, Ok, Err, Some, All, IfOk, IsErrOf, take};
+ghost use Rattle.std.specs.Result.{IsOk, result_err};
 ghost use Rattle.std.specs.Io.KnownBytes.{Consumes};
 ghost use Rattle.ol_rules.specs.Scripts.{Ascends, lines_of};
 ghost use Rattle.ol_values.specs.Text.{same_actor};
-ghost use Rattle.ol_outside.specs.Causes.{Rose};
-ghost use Rattle.ol_script.specs.Pieces.{pieces_behind, pieces_of};
-ghost use Rattle.ol_bytes.specs.Reading.{Gives};
-ghost use Rattle.ol_script.specs.Script.{line_at, line_of, script_limit, script_of};
+ghost use Rattle.ol_ports.specs.Causes.{Rose};
+ghost use Rattle.ol_script.specs.Script.{script_limit, script_of};
 ghost use Rattle.ol_script.specs.Spelling.{AreLinesFrom, IsLine};
 ghost use Rattle.ol_script.specs.Sources.{WasRead};
 
-use crate::forms::form_of;
-use crate::pieces::{cut, next, position_of};
-use crate::words::actor_of;
-use ol_outside::{ReadError, Source, read_all};
+use crate::reader::LineReader;
+use ol_ports::{ReadError, Source, read_all};
 use ol_values::{Actor, Line, Lines, NoMemory};
 use std::alloc::Global;
 use std::marker::Model;
-
-/// The most bytes of a line, its line feed not counted.
-const LINE_LIMIT: usize = 255;
 
 /// The most bytes that are read of a script: those of 65,535 lines with their line feeds, and one more.
 const SCRIPT_LIMIT: usize = 65_535 * 256 + 1;
@@ -92,7 +86,8 @@ fn is_same(one: Actor, other: Actor) -> bool
 ///
 /// `BadScript` names the first line off the grammar, and comes exactly where there is one. `ReadFault` comes
 /// only where the source's count of faults rose in this call; on `Ok`, `BadScript` and `NoMemory` the count
-/// is as it was. What was read before a `ReadFault` or `NoMemory` is gone from the source.
+/// is as it was. What was read before a `ReadFault` or `NoMemory` is gone from the source. `NoMemory` says
+/// nothing of the lines, since memory is wanted for the text too, before a line is known.
 pub fn parse<S: Source>(alloc: Global, source: &mut S) -> Result<Script, ScriptFault>
     ensures script { (left : List ℕ) → S.left source.old ≡ Some left → IfOk result (λ s. script_of left ≡ Ok s) }
     ensures bad { (left : List ℕ) (n : ℕ) → S.left source.old ≡ Some left → result ≡ Err (ScriptFault.BadScript n) → script_of left ≡ Err n }
@@ -112,67 +107,44 @@ pub fn parse<S: Source>(alloc: Global, source: &mut S) -> Result<Script, ScriptF
 }
 
 /// Reads a script from its text. `BadScript` names the first line off the grammar, and comes exactly where
-/// there is one: what stands behind the last line feed is off the grammar, unless it is empty, and so is
-/// line 65,536. No `ReadFault` comes. The time is linear in the text.
+/// there is one, whether or not memory is there: what stands behind the last line feed is off the grammar,
+/// unless it is empty, and so is line 65,536. No `ReadFault` comes. The time is linear in the text.
 pub fn parse_text(alloc: Global, text: &[u8]) -> Result<Script, ScriptFault>
     ensures script { IfOk result (λ s. script_of text.now ≡ Ok s) }
     ensures bad { (n : ℕ) → result ≡ Err (ScriptFault.BadScript n) → script_of text.now ≡ Err n }
+    ensures memory { IsErrOf result ScriptFault.NoMemory → IsOk (script_of text.now) }
     ensures given { result ≡ Err ScriptFault.ReadFault → ⊥ }
     ensures rising { IfOk result (λ s. Ascends s) }
     ensures forms { IfOk result (λ s. All IsLine s) }
 {
+    // all lines are judged before memory is wanted for one
+    if let Err(line) = judge(text) {
+        return Err(ScriptFault::BadScript { line });
+    }
+    match collect(alloc, text) {
+        Ok(lines) => Ok(Script { alloc, lines }),
+        Err(_) => Err(ScriptFault::NoMemory),
+    }
+}
+
+// Whether a text is a script; the error is the number of the first line off the grammar. It takes no memory.
+fn judge(text: &[u8]) -> Result<(), u32>
+    ensures { result_err result ≡ result_err (script_of text.now) }
+{
+    let mut reader = LineReader::new(text);
+    while reader.next()?.is_some() {}
+    Ok(())
+}
+
+// The lines of a script.
+fn collect(alloc: Global, text: &[u8]) -> Result<Lines, NoMemory>
+    requires { IsOk (script_of text.now) }
+    ensures { IfOk result (λ lines. script_of text.now ≡ Ok lines) }
+{
     let mut lines = Lines::new(alloc);
-    let mut number = 1;
-    let mut rest = text;
-    while let Some((line, behind)) = first_line(rest) {
-        let Some(line) = line_at(number, line) else {
-            return Err(ScriptFault::BadScript { line: number });
-        };
-        if lines.push(line).is_err() {
-            return Err(ScriptFault::NoMemory);
-        }
-        number += 1;
-        rest = behind;
+    let mut reader = LineReader::new(text);
+    while let Ok(Some(line)) = reader.next() {
+        lines.push(line)?;
     }
-    if !rest.is_empty() {
-        return Err(ScriptFault::BadScript { line: number });
-    }
-    Ok(Script { alloc, lines })
-}
-
-// The first line of a text and what stands behind its line feed; None where there is no line feed.
-fn first_line(text: &[u8]) -> Option<(&[u8], &[u8])>
-    ensures none { IfNone result (pieces_of 10 text.now ≡ text.now ∷ []) }
-    ensures some { IfSome result (λ p. pieces_of 10 text.now ≡ p.0.now ∷ pieces_of 10 p.1.now) }
-    ensures shorter { IfSome result (λ p. length p.1.now < length text.now) }
-{
-    let end = position_of(b'\n', text)?;
-    Some((&text[..end], &text[end + 1..]))
-}
-
-// The line of this number. None where it is off the grammar, or there are too many lines.
-fn line_at(number: u32, bytes: &[u8]) -> Option<Line>
-    ensures line { Gives (λ l. l) result (line_at number bytes.now) }
-    ensures few { IfSome result (λ l. number ≤ 65535) }
-{
-    let number = u16::try_from(number).ok()?;
-    line_of(number, bytes)
-}
-
-#[tactic(auto, unfolding(crate::specs::Script::line_by))]
-fn line_of(number: u16, bytes: &[u8]) -> Option<Line>
-    ensures { Gives (λ l. l) result (line_of number bytes.now) }
-{
-    if bytes.len() > LINE_LIMIT {
-        return None;
-    }
-    let (actor, behind) = cut(b' ', bytes);
-    let actor = actor_of(actor)?;
-    let (verb, behind) = next(b' ', behind)?;
-    let form = form_of(actor, verb, behind)?;
-    Some(Line {
-        actor,
-        number,
-        form,
-    })
+    Ok(lines)
 }

@@ -4,12 +4,13 @@ ghost use Rattle.std.specs.Prelude.{◌≡◌, ◌≤◌, ◌||◌, IfSome, IsTr
 ghost use Rattle.std.specs.List.{list_all, list_any};
 ghost use Rattle.ol_values.specs.Config.{begins_small, is_digit as is_digit_lem, is_name as is_name_lem, is_small_letter};
 ghost use Rattle.ol_values.specs.Text.{is_plain as is_plain_lem};
-ghost use Rattle.ol_script.specs.Pieces.{pieces_behind};
+ghost use Rattle.ol_words.specs.Words.{pieces_behind};
 ghost use Rattle.ol_bytes.specs.Reading.{Gives};
-ghost use Rattle.ol_script.specs.Words.{actor_by, actor_of, is_number as is_number_lem, is_row as is_row_lem, leads_well as leads_well_lem, name_of, names_of, number_in, place_number, place_of, register_of, row_of, target_by, target_of, value_of};
+ghost use Rattle.ol_script.specs.Words.{actor_by, actor_of, is_decimal as is_decimal_lem, is_row as is_row_lem, leads_well as leads_well_lem, name_of, names_in_words, number_between, place_by_parts, place_number, register_of, row_of, target_by_parts, target_in_text, value_of};
 
-use crate::pieces::{cut, next, two};
+use crate::pieces::{next, two};
 use ol_values::{Actor, LABEL_LIMIT, Label, Labels, NAMES_LIMIT, ROW_LIMIT, Row, Target};
+use ol_words::cut;
 
 /// The most digits of a number in a script.
 const DIGITS_LIMIT: usize = 5;
@@ -41,8 +42,8 @@ fn are_digits(bytes: &[u8]) -> bool
 }
 
 // Whether the word is a number in decimal, without leading zeros.
-fn is_number(word: &[u8]) -> bool
-    ensures { result ≡ is_number_lem word.now }
+fn is_decimal(word: &[u8]) -> bool
+    ensures { result ≡ is_decimal_lem word.now }
 {
     leads_well(word) && are_digits(word)
 }
@@ -61,13 +62,13 @@ fn value_of(word: &[u8]) -> u32
 }
 
 /// A number from `least` to `most`, which are at most 99,999.
-#[tactic(auto, unfolding(crate::specs::Words::number_in))]
-pub(crate) fn number_in(least: u32, most: u32, word: &[u8]) -> Option<u32>
+#[tactic(auto, unfolding(crate::specs::Words::number_between))]
+pub(crate) fn number_between(least: u32, most: u32, word: &[u8]) -> Option<u32>
     requires { most ≤ 99999 }
-    ensures value { Gives (λ n. n) result (number_in least most word.now) }
+    ensures value { Gives (λ n. n) result (number_between least most word.now) }
     ensures range { IfSome result (λ n. (least ≤ n) × (n ≤ most)) }
 {
-    if word.len() > DIGITS_LIMIT || !is_number(word) {
+    if word.len() > DIGITS_LIMIT || !is_decimal(word) {
         return None;
     }
     let value = value_of(word);
@@ -83,12 +84,12 @@ fn actor_by(letter: u8, number: &[u8]) -> Option<Actor>
     ensures { Gives (λ a. a) result (actor_by letter number.now) }
 {
     match letter {
-        b's' => Some(Actor::Session(number_in(1, 16, number)? as u8)),
-        b'a' => Some(Actor::Archiver(number_in(1, 4, number)? as u8)),
-        b'l' => number_in(1, 1, number).map(|_| Actor::Backer),
-        b'f' => number_in(1, 1, number).map(|_| Actor::Flusher),
-        b'c' => number_in(1, 1, number).map(|_| Actor::Checkpointer),
-        b'w' => number_in(1, 1, number).map(|_| Actor::Warmer),
+        b's' => Some(Actor::Session(number_between(1, 16, number)? as u8)),
+        b'a' => Some(Actor::Archiver(number_between(1, 4, number)? as u8)),
+        b'l' => number_between(1, 1, number).map(|_| Actor::Backer),
+        b'f' => number_between(1, 1, number).map(|_| Actor::Flusher),
+        b'c' => number_between(1, 1, number).map(|_| Actor::Checkpointer),
+        b'w' => number_between(1, 1, number).map(|_| Actor::Warmer),
         _ => None,
     }
 }
@@ -108,7 +109,7 @@ pub(crate) fn register_of(word: &[u8]) -> Option<u8>
     ensures { Gives (λ n. n) result (register_of word.now) }
 {
     match word {
-        [b'r', number @ ..] => Some(number_in(0, 9, number)? as u8),
+        [b'r', number @ ..] => Some(number_between(0, 9, number)? as u8),
         _ => None,
     }
 }
@@ -155,12 +156,12 @@ pub(crate) fn name_of(word: &[u8]) -> Option<Label>
 pub(crate) fn place_number(word: &[u8]) -> Option<u32>
     ensures { Gives (λ n. n) result (place_number word.now) }
 {
-    number_in(0, GREATEST_PLACE, word)
+    number_between(0, GREATEST_PLACE, word)
 }
 
-#[tactic(auto, unfolding(crate::specs::Words::place_of))]
-fn place_of(word: &[u8], behind: &[u8]) -> Option<Target>
-    ensures { Gives (λ t. t) result (place_of word.now (pieces_behind 58 behind.now)) }
+#[tactic(auto, unfolding(crate::specs::Words::place_by_parts))]
+fn place_by_parts(word: &[u8], behind: Option<&[u8]>) -> Option<Target>
+    ensures { Gives (λ t. t) result (place_by_parts word.now (pieces_behind 58 behind.entry)) }
 {
     let (page, slot) = two(b':', behind)?;
     let space = name_of(word)?;
@@ -170,15 +171,15 @@ fn place_of(word: &[u8], behind: &[u8]) -> Option<Target>
 }
 
 /// A register, or a place as SPACE:PAGE:SLOT.
-#[tactic(auto, unfolding(crate::specs::Words::target_by))]
-pub(crate) fn target_of(word: &[u8]) -> Option<Target>
-    ensures { Gives (λ t. t) result (target_of word.now) }
+#[tactic(auto, unfolding(crate::specs::Words::target_by_parts))]
+pub(crate) fn target_in_text(word: &[u8]) -> Option<Target>
+    ensures { Gives (λ t. t) result (target_in_text word.now) }
 {
     let (first, behind) = cut(b':', word);
-    if behind.is_empty() {
+    if behind.is_none() {
         Some(Target::Reg(register_of(first)?))
     } else {
-        place_of(first, behind)
+        place_by_parts(first, behind)
     }
 }
 
@@ -219,8 +220,8 @@ fn contains(names: &[Label], word: &[u8]) -> bool
 }
 
 /// 1 to 16 different names of spaces, which are all the words that are left.
-pub(crate) fn names_of(behind: &[u8]) -> Option<Labels>
-    ensures { Gives (λ n. n) result (names_of (pieces_behind 32 behind.now)) }
+pub(crate) fn names_in_words(behind: Option<&[u8]>) -> Option<Labels>
+    ensures { Gives (λ n. n) result (names_in_words (pieces_behind 32 behind.entry)) }
 {
     let mut names = Labels::new();
     let mut rest = behind;

@@ -1,7 +1,7 @@
 //! A disk that fails where it is told to and says what isn't so.
 
 ghost use Rattle.std.specs.Prelude.{◌≡◌, ◌<◌, ◌≤◌, ◌+◌, ◌-◌, ◌^◌, length, min, slice_index, slice_set};
-ghost use Rattle.ol_outside.specs.Causes.{HasChunkCause, risen};
+ghost use Rattle.ol_ports.specs.Causes.{HasChunkCause, risen};
 
 use crate::grounds::{CHUNKS, Spoiled};
 use ol_outside::{Disk, Failed, PAGE_LENGTH};
@@ -40,7 +40,7 @@ impl<D: Disk> Disk for SceneDisk<D> {
 
     ghost moment = { λ d. d.moment };
 
-    ghost counted = { λ d told below. absurd told };
+    ghost counted = { λ d told. absurd told };
 
     ghost bounded = { λ d chunk. Prim.omega arith };
 

@@ -2,7 +2,7 @@
 
 ghost use Rattle.std.specs.Prelude.{◌≡◌, ◌<◌, ◌≤◌, [], length, map};
 ghost use Rattle.std.proofs.Common.{get_or};
-ghost use Rattle.ol_outside.specs.Causes.{Rose, risen};
+ghost use Rattle.ol_ports.specs.Causes.{Rose, risen};
 
 use crate::disks::is_listed;
 use crate::tapes::{Tape, Volume};

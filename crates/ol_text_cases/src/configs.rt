@@ -219,7 +219,7 @@ fn has_text(table: &ChunkTable, text: &str) -> bool {
 #[test]
 fn configurations_lie_where_they_should(rt: HostRuntime) -> Result<(), Fail> {
     for known in &[SMALL, SHORT_LOGS, THREE_SPACES, ONE_IMAGE, LARGE, CHUNKS] {
-        let Ok(table) = parse_config(rt.alloc(), known.text.as_bytes()) else {
+        let Ok(table) = parse_config(known.text.as_bytes()) else {
             panic!(rt; "a configuration is refused");
         };
         let told = [

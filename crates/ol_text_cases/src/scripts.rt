@@ -512,7 +512,7 @@ fn first_other_of_entries(table: &ChunkTable) -> Option<usize> {
 
 #[test]
 fn entries_have_their_texts(rt: HostRuntime) -> Result<(), Fail> {
-    let Ok(table) = parse_config(rt.alloc(), SMALL_CONFIG.as_bytes()) else {
+    let Ok(table) = parse_config(SMALL_CONFIG.as_bytes()) else {
         panic!(rt; "the configuration is refused");
     };
     assert_eq!(rt; first_other_of_replies(&table), None);

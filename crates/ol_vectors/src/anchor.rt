@@ -2,14 +2,14 @@
 
 use crate::short::{Short, page_of};
 use crate::trouble::Trouble;
-use ol_outside::PAGE_LENGTH;
+use ol_ports::PAGE_LENGTH;
 use ol_reserve::{Anchor, AnchorFault};
 use std::alloc::Global;
 
 /// Tells the fields of an anchor and its spelling.
 pub fn tell(alloc: Global, bytes: &[u8]) -> Result<String, Trouble> {
     let page = page_of(bytes)?;
-    match Anchor::decode(alloc, &page) {
+    match Anchor::decode(&page) {
         Ok(anchor) => {
             let mut told = String::new(alloc);
             tell_numbers(&mut told, &anchor)?;
@@ -18,7 +18,6 @@ pub fn tell(alloc: Global, bytes: &[u8]) -> Result<String, Trouble> {
             Ok(told)
         }
         Err(AnchorFault::BadAnchor) => Ok(String::from_str(alloc, "= no anchor\n")?),
-        Err(AnchorFault::NoMemory) => Err(Trouble::NoMemory),
     }
 }
 

@@ -5,7 +5,7 @@
 ghost use Rattle.std.specs.Prelude.{◌≤◌, length};
 
 use crate::trouble::Trouble;
-use ol_outside::PAGE_LENGTH;
+use ol_ports::PAGE_LENGTH;
 use std::alloc::Global;
 use std::fmt;
 

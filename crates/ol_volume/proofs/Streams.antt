@@ -2,11 +2,11 @@
 use Rattle.std.proofs.Common.{◌≡◌, ℕ, List, [], ◌∷◌, ◌++◌, Option, Some, None, Bool, refl, inl, inr, ⊎_elim, sym, ◌∙◌, ap, arith, append_assoc}
 use Rattle.std.proofs.lemmas.List.{append-nil}
 use Rattle.std.specs.Option.{option_map}
-use Rattle.ol_outside.specs.Drive.{Tape, stream, stream_of, capacity, append_last, with_block, Writes}
-use Rattle.ol_outside.specs.Causes.{Rose}
-use Rattle.ol_outside.specs.declared.drive.Wrote.TheVariants.{Done, Failed as WriteFailed}
+use Rattle.ol_ports.specs.Drive.{Tape, blocks_in_order, stream_of, capacity, append_last, with_block, Writes}
+use Rattle.ol_ports.specs.Causes.{Rose}
+use Rattle.ol_ports.specs.declared.drive.Wrote.TheVariants.{Done, Failed as WriteFailed}
 use Rattle.ol_volume.specs.Written.{Written, and_block, Puts, IsTapeFault}
-use Rattle.ol_volume.specs.Mounting.{IsReady}
+use Rattle.ol_volume.specs.Mounting.{IsMountedWhereTold}
 
 -- how far a put has come: no block was put, and the drive takes as many as before
 pub record IsUnderWay (old : Written) (tape : Tape) (count drive : ℕ) (mounted : Bool) : Type 0 where
@@ -15,19 +15,19 @@ pub record IsUnderWay (old : Written) (tape : Tape) (count drive : ℕ) (mounted
   pub room : capacity tape ≡ capacity old.tape
   pub faults : count ≡ old.faults
   pub number : drive ≡ old.number
-  pub ready : IsReady tape mounted
+  pub ready : IsMountedWhereTold tape mounted
 
 -- a block more on the last volume stands at the end of the stream
-stream-append_last : (volumes : List (List (List ℕ))) (block : List ℕ) → stream (append_last volumes block) ≡ stream volumes ++ block ∷ []
+stream-append_last : (volumes : List (List (List ℕ))) (block : List ℕ) → blocks_in_order (append_last volumes block) ≡ blocks_in_order volumes ++ block ∷ []
 stream-append_last [] block = refl
 stream-append_last (v ∷ []) block = simp append-nil
-stream-append_last (v ∷ w ∷ volumes) block = ap (λ s. v ++ s) (stream-append_last (w ∷ volumes) block) ∙ sym (append_assoc v (stream (w ∷ volumes)) (block ∷ []))
+stream-append_last (v ∷ w ∷ volumes) block = ap (λ s. v ++ s) (stream-append_last (w ∷ volumes) block) ∙ sym (append_assoc v (blocks_in_order (w ∷ volumes)) (block ∷ []))
 
 -- the same of a drive's stream, where it tells
 stream-with_block : (block : List ℕ) (t : Tape) → stream_of (with_block block t) ≡ and_block (stream_of t) block
 stream-with_block block t = known t.volumes
   where
-    known : (volumes : Option (List (List (List ℕ)))) → option_map stream (option_map (λ v. append_last v block) volumes) ≡ and_block (option_map stream volumes) block
+    known : (volumes : Option (List (List (List ℕ)))) → option_map blocks_in_order (option_map (λ v. append_last v block) volumes) ≡ and_block (option_map blocks_in_order volumes) block
     known None = refl
     known (Some v) = ap Some (stream-append_last v block)
 

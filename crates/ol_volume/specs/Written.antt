@@ -1,8 +1,8 @@
 -- What a writer of a tape did to its drive.
 use Rattle.std.specs.Prelude.{ℕ, ◌+◌, ◌≡◌, ◌⊎◌, List, [], ◌∷◌, ◌++◌, Option}
 use Rattle.std.specs.Option.{option_map}
-use Rattle.ol_outside.specs.Causes.{Rose}
-use Rattle.ol_outside.specs.Drive.{Tape, capacity, spoilt, stream_of}
+use Rattle.ol_ports.specs.Causes.{Rose}
+use Rattle.ol_ports.specs.Drive.{Tape, capacity, without_room, stream_of}
 use Rattle.ol_volume.specs.declared.writer.TapeEnd.{TapeEnd}
 use Rattle.ol_volume.specs.declared.writer.TapeEnd.TheVariants.{TapeFault, OutOfTape}
 
@@ -53,5 +53,5 @@ EndsPut old block new (OutOfTape drive) = IsOutOfTape old new drive
 -- what a finish that was refused leaves
 abbrev pub EndsFinish : Written → Written → TapeEnd → Type 0
 EndsFinish old new (TapeFault drive count) =
-    (drive ≡ old.number) × (count ≡ new.faults) × Rose old.faults new.faults × (new.tape ≡ spoilt old.tape) × (new.number ≡ old.number)
+    (drive ≡ old.number) × (count ≡ new.faults) × Rose old.faults new.faults × (new.tape ≡ without_room old.tape) × (new.number ≡ old.number)
 EndsFinish old new (OutOfTape drive) = ⊥

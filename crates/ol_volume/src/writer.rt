@@ -1,11 +1,11 @@
 //! The writer of a drive.
 
 ghost use Rattle.std.specs.Prelude.{◌≡◌, OnOk, IfErr};
-ghost use Rattle.ol_outside.specs.Drive.{Tape, all_synced};
+ghost use Rattle.ol_ports.specs.Drive.{Tape, all_synced};
 ghost use Rattle.ol_volume.specs.Written.{Written, Puts, EndsPut, EndsFinish};
 ghost use Rattle.ol_volume.specs.Mounting.{MountsNext, EndsMounting};
 
-use ol_outside::{BLOCK_LENGTH, Drive, Mounted, Wrote};
+use ol_ports::{BLOCK_LENGTH, Drive, Mounted, Wrote};
 use std::marker::Model;
 
 /// Why no more goes on the tape.
@@ -28,14 +28,14 @@ pub struct Writer<T: Drive> {
 impl<T: Drive> Model for Writer<T> {
     ghost use Rattle.std.specs.Prelude.{◌≡◌, ◌<◌, true, false};
     ghost use Rattle.ol_volume.specs.Written.{Written};
-    ghost use Rattle.ol_volume.specs.Mounting.{IsReady};
+    ghost use Rattle.ol_volume.specs.Mounting.{IsMountedWhereTold};
 
     ghost Value = { Written };
 
     ghost view = { λ w. record { tape = T.tape w.drive; faults = T.fault_count w.drive; number = w.number } };
 
     // a drive may be written to only after a mount, and mounted only where there is no room
-    ghost invariant = { λ w. IsReady (T.tape w.drive) w.mounted };
+    ghost invariant = { λ w. IsMountedWhereTold (T.tape w.drive) w.mounted };
 }
 
 impl<T: Drive> Writer<T> {

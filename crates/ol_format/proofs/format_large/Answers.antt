@@ -1,7 +1,6 @@
 use Rattle.std.proofs.Common.{inl, inr, subst, sym, ⊎_elim, ℕ, ◌≤◌}
 use Rattle.ol_format.proofs.Formatting.{root_size}
-use Rattle.ol_format.proofs.Frames.{frame_both}
-use Rattle.ol_format.proofs.Stops.{stops_both, stops_weaker}
+use Rattle.ol_ports.proofs.StopLaws.{stops_both, stops_framed, stops_weaker}
 use Rattle.ol_format.proofs.format_large.Goals as goal
 
 pub clear-requires-clause-pair : goal.clear-requires-clause-pair
@@ -18,7 +17,7 @@ returns-in-Ok-clause-stops g c tells =
 
 pub returns-in-Ok-clause-frame : goal.returns-in-Ok-clause-frame
 returns-in-Ok-clause-frame g c tells =
-    frame_both _ _ _ c.args.table.now (c.in-Ok.ensures.frame tells) (c.write_first.ensures.frame tells c.args.table.now c.make_first-anchor.ensures.config)
+    stops_framed _ _ _ _ (c.in-Ok.ensures.frame tells) (c.write_first.ensures.frame tells c.args.table.now c.make_first-anchor.ensures.config)
 
 pub returns-in-Err-clause-stops : goal.returns-in-Err-clause-stops
 returns-in-Err-clause-stops g c tells = stops_weaker _ _ _ _ (λ d closing. ⊎_elim (λ gates. inl gates) (λ none. inr (inl none)) closing) (c.in-Err.ensures.stops tells)

@@ -1,5 +1,5 @@
 use Rattle.ol_online.proofs.CalmLaws.{calm_command, calm_init, some_item}
-use Rattle.ol_online.proofs.InitLaws.{reported_is}
+use Rattle.ol_online.proofs.InitLaws.{reported_cause, reported_is}
 use Rattle.ol_online.proofs.SourceLaws.{takes_reported}
 use Rattle.std.proofs.Common.{◌∙◌}
 use Rattle.ol_online.proofs.command.Goals as goal
@@ -23,3 +23,6 @@ returns-clause-untouched g c init not_ok no_write no_disk =
 pub returns-clause-reads : goal.returns-clause-reads
 returns-clause-reads g c verb is =
     takes_reported _ _ _ _ _ c.work-told.result.1 _ c.report-status.ensures.kind (c.work-told.ensures.reads verb is)
+
+pub returns-clause-cause : goal.returns-clause-cause
+returns-clause-cause g c = reported_cause _ _ _ _ _ _ c.report-status.ensures.kind c.work-told.ensures.cause

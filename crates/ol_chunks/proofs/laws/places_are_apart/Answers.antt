@@ -11,7 +11,7 @@ pub returns-clause-reserved : goal.returns-clause-reserved
 returns-clause-reserved c = λ config is space page place e at. past_reserved config is space page place e at
 
 pub returns-clause-physical : goal.returns-clause-physical
-returns-clause-physical c = λ config is space page place e lies. past_physical config is space page place e lies
+returns-clause-physical c = λ config is space page place e. past_physical config is space page place e
 
 pub returns-clause-logs : goal.returns-clause-logs
-returns-clause-logs c = λ config is space page place e lies. past_logs config is space page place e lies
+returns-clause-logs c = λ config is space page place e. past_logs config is space page place e

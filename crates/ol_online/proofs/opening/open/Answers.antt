@@ -1,6 +1,6 @@
 use Rattle.std.proofs.Common.{subst, sym, ℕ}
 use Rattle.std.specs.Prelude.{Err, Some}
-use Rattle.ol_outside.specs.Disk.{seen}
+use Rattle.ol_ports.specs.Disk.{seen}
 use Rattle.ol_reserve.specs.Pair.{there}
 use Rattle.ol_online.proofs.OpeningLaws.{disk_cause, only_opened, only_refused, opened, refused, refused_to}
 use Rattle.ol_online.specs.Opening.{HasStatusCause, IsOpening, OpensTable, OpensTo}
@@ -14,9 +14,9 @@ returns-in-Ok-clause-ended g c =
       why = λ tells.
           let told = c.in-Ok.ensures.ok tells in
           let opens = c.open_table.ensures.opens told.0 told.1.1.holds.anchor told.2 in
-          opened _ _ told.0 c.open_table.result told.1 (subst (λ (sizes : ℕ → ℕ). OpensTable sizes told.0 c.open_table.result) c.in-Ok.ensures.sizes opens);
-      only = λ tells a newest.
-          let bytes = c.in-Ok.ensures.answer tells (Some a) newest in
+          opened _ _ told.0 c.open_table.result told.1 told.3 (subst (λ (sizes : ℕ → ℕ). OpensTable sizes told.0 c.open_table.result) c.in-Ok.ensures.sizes opens);
+      only = λ tells low a newest.
+          let bytes = c.in-Ok.ensures.answer tells low (Some a) newest in
           only_opened _ a c.open_table.result
           (subst (λ (sizes : ℕ → ℕ). OpensTable sizes a c.open_table.result) c.in-Ok.ensures.sizes (c.open_table.ensures.opens a newest.1.holds.anchor bytes));
     }
@@ -26,8 +26,8 @@ returns-in-Err-clause-ended g c =
     subst (λ (s : Status). IsOpening g.D.Disk.tells (there (g.D.Disk.sizes c.args.disk.now) (seen (g.D.Disk.past c.args.disk.now))) (g.D.Disk.sizes c.args.disk.now) (Err s)) (sym c.status_of.ensures)
     (record {
       ends = refused_to _ _ _ c.in-Err.fault c.in-Err.ensures.place c.in-Err.ensures.cause;
-      why = λ tells. refused _ _ c.in-Err.fault (c.in-Err.ensures.blank tells) (c.in-Err.ensures.bad tells);
-      only = λ tells a newest. only_refused _ a c.newest.new.buf c.in-Err.fault (c.in-Err.ensures.answer tells (Some a) newest);
+      why = λ tells. refused _ _ c.in-Err.fault (c.in-Err.ensures.blank tells) (c.in-Err.ensures.bad tells) (c.in-Err.ensures.first tells);
+      only = λ tells low a newest. only_refused _ a c.newest.new.buf c.in-Err.fault (c.in-Err.ensures.answer tells low (Some a) newest);
     })
 
 pub returns-in-Err-clause-cause : goal.returns-in-Err-clause-cause

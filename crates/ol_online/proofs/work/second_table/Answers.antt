@@ -1,17 +1,15 @@
-use Rattle.std.specs.Prelude.{Err}
 use Rattle.std.proofs.Common.{ap, ◌∙◌}
-use Rattle.ol_chunks.specs.Reading.{config_of}
-use Rattle.ol_online.proofs.CommandLaws.{text_again}
+use Rattle.ol_chunks.specs.Reading.{config_in_text}
+use Rattle.ol_online.proofs.CommandLaws.{not_bad, text_again}
 use Rattle.ol_online.proofs.work.second_table.Goals as goal
 
 pub unreachable-requires : goal.unreachable-requires
 unreachable-requires c =
     let again = text_again c.args.table.now c.text-count.result c.text-count.new.buf _ c.requires c.text-count.ensures.length c.text-count.ensures.text in
-    let read = ap config_of c.split_at.ensures.front ∙ again in
-    let bad = c.in-Err-BadConfig.ensures.bad c.in-Err-BadConfig.field-0-0 (ap Err c.in-Err-BadConfig.field-0-is) in cc
+    not_bad _ c.split_at.result.0.now c.in_default.field-0 (ap config_in_text c.split_at.ensures.front ∙ again) c.in_default.ensures.bad
 
-pub returns-in-Ok : goal.returns-in-Ok
-returns-in-Ok c =
+pub returns : goal.returns
+returns c =
     let again = text_again c.args.table.now c.text-count.result c.text-count.new.buf _ c.requires c.text-count.ensures.length c.text-count.ensures.text in
-    let read = ap config_of c.split_at.ensures.front ∙ again in
+    let read = ap config_in_text c.split_at.ensures.front ∙ again in
     let found = c.in-Ok.ensures.table in cc

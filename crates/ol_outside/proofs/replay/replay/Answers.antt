@@ -1,6 +1,6 @@
 use Rattle.std.proofs.Common.{◌<◌, ◌∷◌, length, take, sym, ap, ◌∙◌, subst, arith}
-use Rattle.ol_outside.specs.Disk.{after}
-use Rattle.ol_outside.specs.Chunks.{lengths, Holds}
+use Rattle.ol_ports.specs.Disk.{bytes_after}
+use Rattle.ol_outside.specs.Chunks.{lengths, ChunksHold}
 use Rattle.ol_outside.specs.Images.{chosen}
 use Rattle.ol_outside.specs.KeptCalls.{call_of, passes, kept_calls}
 use Rattle.ol_outside.proofs.ImageLaws.{fits-lengths, lengths-redone, lengths-image_after, holds-none, holds-none-chosen, holds-redone, holds-image_after, holds-passes, holds-passes-chosen}
@@ -10,7 +10,7 @@ use Rattle.ol_outside.proofs.replay.replay.Goals as goal
 pub loop-call-init : goal.loop-call-init
 loop-call-init c = record {
   written = holds-none c.args.written.now;
-  image = subst (λ image. Holds image (chosen c.args.choice c.args.written.now (kept_calls (take 0 c.args.kept.now)))) (sym c.requires.same) (holds-none-chosen c.args.choice c.args.written.now);
+  image = subst (λ image. ChunksHold image (chosen c.args.choice c.args.written.now (kept_calls (take 0 c.args.kept.now)))) (sym c.requires.same) (holds-none-chosen c.args.choice c.args.written.now);
   written_lengths = ap lengths (sym c.requires.same) ∙ ap lengths c.requires.same;
   image_lengths = ap lengths c.requires.same;
 }
@@ -49,8 +49,8 @@ loop-call-preserved c =
     let more = sym (kept_calls-more kept i k lt c.call-item.is) in
     let was = holds-passes base written k.passed calls inv.written in
     record {
-      written = subst (λ l. Holds c.redo.new.written (after base l)) more (subst (λ x. Holds x (after base (call ∷ older))) (sym c.redo.ensures.written) (holds-redone base written older call fits_written was));
-      image = subst (λ l. Holds c.redo.new.image (chosen choice base l)) more (subst (λ x. Holds x (chosen choice base (call ∷ older))) (sym c.redo.ensures.image) (holds-image_after base written image older choice call fits_image was (holds-passes-chosen choice base image k.passed calls inv.image)));
+      written = subst (λ l. ChunksHold c.redo.new.written (bytes_after base l)) more (subst (λ x. ChunksHold x (bytes_after base (call ∷ older))) (sym c.redo.ensures.written) (holds-redone base written older call fits_written was));
+      image = subst (λ l. ChunksHold c.redo.new.image (chosen choice base l)) more (subst (λ x. ChunksHold x (chosen choice base (call ∷ older))) (sym c.redo.ensures.image) (holds-image_after base written image older choice call fits_image was (holds-passes-chosen choice base image k.passed calls inv.image)));
       written_lengths = ap lengths c.redo.ensures.written ∙ lengths-redone call written fits_written ∙ inv.written_lengths;
       image_lengths = ap lengths c.redo.ensures.image ∙ lengths-image_after choice call written image fits_image (inv.image_lengths ∙ sym inv.written_lengths) ∙ inv.image_lengths;
     }

@@ -5,4 +5,4 @@ use Rattle.ol_chunks.proofs.table.ChunkTable.before.Goals as goal
 
 pub returns-clause-inside : goal.returns-clause-inside
 returns-clause-inside c =
-    rw (c.from.ensures, c.count_chunks.ensures, c.deref.ensures.value, ← c.self.view_is) (sym (image_pages (config_in c.self.inside.layout)))
+    rw (c.from.ensures, c.count_chunks.ensures, c.deref.ensures.0, ← c.self.view_is) (sym (image_pages (config_in c.self.inside.layout)))

@@ -1,6 +1,4 @@
-use Rattle.std.proofs.Common.{◌+◌, ◌<◌, ◌≡◌, ap, arith, length, sym, ◌∙◌}
-use Rattle.std.proofs.lemmas.List.{get_or_read}
-use Rattle.ol_values.specs.Config.{SpaceConfig, space_at, unnamed}
+use Rattle.std.proofs.Common.{◌+◌, ◌<◌, arith, length, sym}
 use Rattle.ol_chunks.specs.Drafts.{config_in}
 use Rattle.ol_chunks.proofs.Chunks.{place_inside}
 use Rattle.ol_chunks.proofs.table.ChunkTable.place.Goals as goal
@@ -8,8 +6,6 @@ use Rattle.ol_chunks.proofs.table.ChunkTable.place.Goals as goal
 pub returns-clause-inside : goal.returns-clause-inside
 returns-clause-inside c =
     let there : c.from-space.result < length c.self.inside.layout.spaces.items = omega arith in
-    let at : c.index.result.now ≡ space_at (config_in c.self.inside.layout) c.from-space.result =
-    get_or_read c.self.inside.layout.spaces.items _ _ there c.index.ensures unnamed in
     rw (← c.self.view_is)
     (place_inside (config_in c.self.inside.layout) c.from-space.result c.first_number-first.result (c.area_pages.result + c.from.result) c.chunks.result.now (c.in_ok-chunk.chunk, c.in_ok-chunk.page)
-    there c.first_number-first.ensures.value (c.chunks.ensures ∙ ap (λ (s : SpaceConfig). s.chunks) at) (sym c.in_ok-chunk.ensures.value))
+    there c.first_number-first.ensures.value c.chunks.ensures (sym c.in_ok-chunk.ensures.value))

@@ -1,7 +1,7 @@
 use Rattle.std.proofs.Common.{◌≡◌, ◌≤◌, ℕ, [], length, take, sym, ap, ◌∙◌, subst, arith}
 use Rattle.std.proofs.lemmas.Result.{IfOk-weaker}
 use Rattle.ol_outside.specs.Devices.{DiskState, fresh_disk, last_moment}
-use Rattle.ol_outside.specs.Disk.{seen, Left}
+use Rattle.ol_ports.specs.Disk.{seen, Left}
 use Rattle.ol_outside.specs.Images.{chosen, stopped_within, SameImages}
 use Rattle.ol_outside.specs.KeptCalls.{calls_of, kept_calls, AllFitIn}
 use Rattle.ol_outside.proofs.KeptLaws.{fits-passes, fits-take}
@@ -34,4 +34,4 @@ pub returns-clause-left : goal.returns-clause-left
 unfolding Left
 returns-clause-left c =
     let made : c.args.moment ≤ last_moment c.args.self.now = c.requires.made in
-    IfOk-weaker c.begin.result _ _ (λ disk is. left-chosen c.args.choice c.args.self.now.past.base c.args.self.now.past.calls c.args.moment (seen disk.past) c.requires.above (omega (arith, made)) (read_is c disk is)) c.begin.ensures
+    IfOk-weaker c.begin.result _ _ (λ disk is. left-chosen c.args.choice c.args.self.now.past.base c.args.self.now.past.calls c.args.moment (seen disk.past) (omega (arith, made)) (read_is c disk is)) c.begin.ensures

@@ -1,7 +1,7 @@
 use Rattle.std.proofs.Common.{◌≡◌, ℕ, [], sym, ap, ◌∙◌, subst}
 use Rattle.std.proofs.lemmas.Result.{IfOk-weaker}
 use Rattle.ol_outside.specs.Devices.{DiskState, fresh_disk}
-use Rattle.ol_outside.specs.Disk.{seen}
+use Rattle.ol_ports.specs.Disk.{seen}
 use Rattle.ol_outside.specs.Images.{chosen}
 use Rattle.ol_outside.specs.KeptCalls.{kept_calls, AllFitIn}
 use Rattle.ol_outside.proofs.ImageLaws.{chosen-passes}

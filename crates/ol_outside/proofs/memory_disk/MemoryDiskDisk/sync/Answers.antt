@@ -1,8 +1,8 @@
 use Rattle.std.proofs.Common.{◌<◌, length, sym, ap, ◌∙◌, subst, arith, Err}
 use Rattle.std.proofs.lemmas.List.{length-set}
-use Rattle.ol_outside.specs.Causes.{HasChunkCause}
-use Rattle.ol_outside.specs.Devices.{DiskState, chunk_faults, pages_of, last_moment, LeavesNothing}
-use Rattle.ol_outside.specs.Disk.{Past}
+use Rattle.ol_ports.specs.Causes.{HasChunkCause}
+use Rattle.ol_outside.specs.Devices.{DiskState, chunk_faults, disk_pages, last_moment, LeavesNothing}
+use Rattle.ol_ports.specs.Disk.{Past}
 use Rattle.ol_outside.specs.KeptCalls.{calls_of, kept_calls, passes, PassesOver, Agrees}
 use Rattle.ol_outside.proofs.AgreeLaws.{passes-over, passes-leaves, agrees-synced, agrees-passed, counts-cause, sized-there, sized-count, from_err, from_ok}
 use Rattle.ol_outside.proofs.memory_disk.MemoryDiskDisk.sync.Goals as goal
@@ -42,7 +42,7 @@ returns-then-fails-clause-failed c =
 pub returns-then-fails-clause-cause : goal.returns-then-fails-clause-cause
 returns-then-fails-clause-cause c =
     let s = c.self.inside in
-    let sized : 0 < pages_of c.args.self.now c.args.chunk = c.requires in
+    let sized : 0 < disk_pages c.args.self.now c.args.chunk = c.requires in
     let there : c.args.chunk < length s.counts.items = omega (arith, c.self.invariant.1, ap (λ (d : DiskState). length d.sizes) c.self.view_is, sized-there c.args.self.now.sizes c.args.chunk sized) in
     subst (λ (d : DiskState). HasChunkCause {T = Unit {0}} c.args.chunk (chunk_faults d) (λ k. chunk_faults (record d { counts = c.count_fault.new.counts.items }) k) (Err record {})) c.self.view_is
     (counts-cause s.counts.items c.count_fault.new.counts.items c.args.chunk (record {}) there c.count_fault.ensures.counted c.count_fault.ensures.later)
@@ -59,7 +59,7 @@ invariant_of-self-then-is_err c =
 pub returns-then-is_err-clause-cause : goal.returns-then-is_err-clause-cause
 returns-then-is_err-clause-cause c =
     let s = c.self.inside in
-    let sized : 0 < pages_of c.args.self.now c.args.chunk = c.requires in
+    let sized : 0 < disk_pages c.args.self.now c.args.chunk = c.requires in
     let there : c.args.chunk < length s.counts.items = omega (arith, c.self.invariant.1, ap (λ (d : DiskState). length d.sizes) c.self.view_is, sized-there c.args.self.now.sizes c.args.chunk sized) in
     let new = c.count_fault-then-is_err.new.counts.items in
     subst (λ (d : DiskState). HasChunkCause {T = Unit {0}} c.args.chunk (chunk_faults d) (λ k. chunk_faults (record d { counts = new }) k) (Err record {})) c.self.view_is
@@ -69,7 +69,7 @@ pub invariant_of-self-else-is_err : goal.invariant_of-self-else-is_err
 invariant_of-self-else-is_err c =
     let s = c.self.inside in
     let is = from_ok c.sync.result (sym c.is_err.ensures.value ∙ c.if-is_err.false) c.sync.ensures.ok in
-    let sized : 0 < pages_of c.args.self.now c.args.chunk = c.requires in
+    let sized : 0 < disk_pages c.args.self.now c.args.chunk = c.requires in
     let there : c.args.chunk < length s.base = omega (arith, sized-count s.base s.sizes.items c.self.invariant.0.base_sized, ap (λ (d : DiskState). length d.sizes) c.self.view_is, sized-there c.args.self.now.sizes c.args.chunk sized) in (
       subst (Agrees s.base s.bytes (calls_of c.sync.new.kept.items c.sync.new.passed) s.sizes.items) (sym c.saturating_add-self-inside.ensures)
           (agrees-synced s.base s.bytes (calls_of s.kept.items s.passed) _ s.sizes.items s.moment c.self.invariant.0 c.args.chunk there is),

@@ -1,6 +1,6 @@
 use Rattle.std.proofs.Common.{◌≡◌, ℕ, List, [], ◌∷◌, ◌++◌, Vec, Global, map, sym, ap, ◌∙◌, subst}
 use Rattle.std.proofs.lemmas.List.{map-append}
-use Rattle.ol_outside.specs.Drive.{BlocksFit, last_length}
+use Rattle.ol_outside.specs.Volumes.{BlocksFit, last_length}
 use Rattle.ol_outside.proofs.LastVolume.{blocks-fit-added, last_length-added}
 use Rattle.ol_outside.proofs.memory_drive.Volumes.add.Goals as goal
 

@@ -2,7 +2,8 @@ use Rattle.std.proofs.Common.{◌≡◌, ℕ, ◌+◌, ◌-◌, ◌<◌, List, [
 use Rattle.std.proofs.Math.ListN.{set}
 use Rattle.std.proofs.Math.Seq.{map-set_same}
 use Rattle.std.proofs.lemmas.List.{map-set, length-map, get_or-map}
-use Rattle.ol_outside.specs.Drive.{append_last, stream, BlocksFit, last_length}
+use Rattle.ol_ports.specs.Drive.{append_last, blocks_in_order}
+use Rattle.ol_outside.specs.Volumes.{BlocksFit, last_length}
 use Rattle.ol_outside.proofs.LastVolume.{set-append_last, length-stream-append_last, last_length-append_last, blocks-fit-append_last}
 use Rattle.ol_outside.proofs.memory_drive.Volumes.append.Goals as goal
 
@@ -64,4 +65,4 @@ returns-clause-last c = ap last_length (grown c) ∙ last_length-append_last c.a
 
 pub returns-clause-blocks : goal.returns-clause-blocks
 returns-clause-blocks c =
-    ap (λ (v : List (List (List ℕ))). length (stream v)) (grown c) ∙ length-stream-append_last c.args.self.now c.args.block.now
+    ap (λ (v : List (List (List ℕ))). length (blocks_in_order v)) (grown c) ∙ length-stream-append_last c.args.self.now c.args.block.now

@@ -1,5 +1,5 @@
 use Rattle.std.proofs.Common.{length, ap, subst, arith}
-use Rattle.ol_outside.specs.Drive.{BlocksFit}
+use Rattle.ol_outside.specs.Volumes.{BlocksFit}
 use Rattle.ol_outside.proofs.LastVolume.{blocks-fit-at}
 use Rattle.ol_outside.proofs.ShelfLaws.{volume-element, volumes-count}
 use Rattle.ol_outside.proofs.memory_drive.Volumes.block_count.Goals as goal

@@ -2,8 +2,8 @@ use Rattle.std.proofs.Common.{◌≡◌, ◌<◌, [], length, map, get_or, sym, 
 use Rattle.std.proofs.Math.ListN.{set}
 use Rattle.std.proofs.lemmas.List.{length-set, get_or_read}
 use Rattle.std.specs.Vec.{with_item}
-use Rattle.ol_outside.specs.Drive.{BlocksFit}
-use Rattle.ol_outside.specs.Shelf.{flipped, flipped_in}
+use Rattle.ol_outside.specs.Volumes.{BlocksFit}
+use Rattle.ol_outside.specs.Volumes.{flipped, flipped_in}
 use Rattle.ol_outside.proofs.ShelfLaws.{blocks_of, volume-element, volumes-count, volume-replaced, volume-there, blocks-fit-set}
 use Rattle.ol_outside.proofs.memory_drive.Volumes.flip.Goals as goal
 

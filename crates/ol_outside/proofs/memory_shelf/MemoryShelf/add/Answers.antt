@@ -1,6 +1,7 @@
 use Rattle.std.proofs.Common.{◌≡◌, ◌+◌, ◌^◌, ◌<◌, ℕ, List, [], ◌++◌, length, get_or, ap, ◌∙◌, arith, length-append, Result, Ok, Err, OnOk, OnErr}
 use Rattle.std.proofs.lemmas.List.{length-set, get_or_read}
-use Rattle.ol_outside.specs.Shelf.{ShelfState, volumes_at}
+use Rattle.ol_ports.specs.Shelf.{volumes_at}
+use Rattle.ol_outside.specs.Devices.{ShelfState}
 use Rattle.ol_outside.proofs.ShelfLaws.{volumes-fit-set}
 use Rattle.ol_outside.proofs.memory_shelf.MemoryShelf.add.Goals as goal
 
