@@ -1,0 +1,10 @@
+pub mod Cut
+pub mod Files
+pub mod Journals
+pub mod Listed
+pub mod Logs
+pub mod Moves
+pub mod PlaceLaws
+pub mod Runs
+pub mod Seen
+pub mod WriteLaws

@@ -1,0 +1,5 @@
+pub mod Heads
+pub mod Places
+pub mod Runs
+pub mod Scanning
+pub mod Writes

@@ -1,0 +1,9 @@
+pub mod UseLaws
+pub mod FileLaws
+pub mod ListLaws
+pub mod EnterLaws
+pub mod RingLaws
+pub mod TakenLaws
+pub mod FoundLaws
+pub mod NextLaws
+pub mod RegularLaws

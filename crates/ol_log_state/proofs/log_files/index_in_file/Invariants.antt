@@ -1,0 +1,9 @@
+use Rattle.std.proofs.Common.{drop, ◌%◌, ◌-◌, ◌==◌, ◌≡◌}
+use Rattle.std.specs.List.{position_from}
+use Rattle.ol_log_state.specs.Uses.{Stored}
+use Rattle.ol_log_state.proofs.log_files.index_in_file.Given as goal
+
+abbrev pub invariant-loop-i : goal.invariant-loop-i
+invariant-loop-i l =
+    position_from (λ (s : Stored). ((s.held.uniq - 1) % l.files) == l.file) l.i (drop l.i l.uses)
+    ≡ position_from (λ (s : Stored). ((s.held.uniq - 1) % l.files) == l.file) 0 l.uses

@@ -1,0 +1,18 @@
+use Rattle.std.proofs.Common.{OnOk, subst, ℕ}
+use Rattle.ol_ports.specs.Stops.{Stops}
+use Rattle.ol_log_places.specs.Places.{Place}
+use Rattle.ol_log_places.specs.Runs.{HoldsLog}
+use Rattle.ol_loglog.specs.RingValue.{RingValue, first_unwritten, ring_value}
+use Rattle.ol_loglog.specs.Ready.{IsNextFree, IsReady}
+use Rattle.ol_loglog.proofs.ring.LogRing.flush.Goals as goal
+
+pub returns-clause-ok : goal.returns-clause-ok
+returns-clause-ok g c tells r floor j ready free =
+    subst (λ (v : RingValue). IsReady (g.D.Disk.past c.args.disk.now) v r floor j → IsNextFree v r floor
+    → OnOk c.flush_page.result ((s : ℕ → Place) × IsReady (g.D.Disk.past c.flush_page.new.disk) (ring_value c.self.inside.table c.flush_page.new.state c.flush_page.new.gates.items) s floor j)) c.self.view_is
+    (λ is next. c.flush_page.ensures.ok tells r floor j is next) ready free
+
+pub returns-clause-stops : goal.returns-clause-stops
+returns-clause-stops g c tells r floor j ready free =
+    subst (λ (v : RingValue). IsReady (g.D.Disk.past c.args.disk.now) v r floor j → IsNextFree v r floor → Stops (g.D.Disk.past c.args.disk.now) (g.D.Disk.past c.flush_page.new.disk) (HoldsLog v.config j floor (first_unwritten v.state) v.state.next)) c.self.view_is
+    (λ is next. c.flush_page.ensures.stops tells r floor j is next) ready free

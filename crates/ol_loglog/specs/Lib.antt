@@ -1,0 +1,2 @@
+pub mod RingValue
+pub mod Ready

@@ -1,0 +1,11 @@
+//! The log ring over a disk: records are buffered, and written page by page into log files that are used in turn.
+#![tactic(auto)]
+
+mod laws;
+mod pages;
+mod ring;
+
+pub use laws::{opening_is_ready, order_is_kept, readiness_is_kept, reusable_file_is_free};
+pub use ol_log_places::{ScanFault, Standing, Stood, scan};
+pub use ol_log_state::{NoMemory, RingStart, Use};
+pub use ring::LogRing;
