@@ -1,0 +1,11 @@
+mod AddLaws
+mod BeginLaws
+mod EmptyLaws
+mod FoundLaws
+mod KeptLaws
+mod Lists
+mod PlaceLaws
+mod ReadLaws
+mod SettleLaws
+mod StateLaws
+mod StopLaws
