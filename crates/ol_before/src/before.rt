@@ -61,6 +61,13 @@ impl Before {
         self.held.len() as u32
     }
 
+    /// How many images may be held.
+    pub fn limit(&self) -> u32
+        ensures { result ≡ self.now.limit }
+    {
+        self.limit
+    }
+
     /// For how many images more memory was made. With those that are held they are at most one more than the
     /// configuration allows.
     pub fn spare(&self) -> u32

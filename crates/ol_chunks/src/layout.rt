@@ -65,6 +65,19 @@ impl Space {
     {
         self.chunks.as_slice()
     }
+
+    fn copy(&self) -> Space
+        ensures { result ≡ self.now }
+    {
+        let mut chunks = ArrayVec::new();
+        for index in 0..self.chunks.len() {
+            chunks.push(self.chunks[index]);
+        }
+        Space {
+            name: self.name,
+            chunks,
+        }
+    }
 }
 
 /// What a configuration says. What isn't read yet is zero.
@@ -80,6 +93,20 @@ pub(crate) struct Layout {
 }
 
 impl Layout {
+    pub(crate) fn copy(&self) -> Layout
+        ensures { config_in result ≡ config_in self.now }
+    {
+        Layout {
+            spaces: copy_spaces(&self.spaces),
+            physical_space: self.physical_space,
+            physical_entries: self.physical_entries,
+            log_space: self.log_space,
+            log_files: self.log_files,
+            log_file_pages: self.log_file_pages,
+            image_limit: self.image_limit,
+        }
+    }
+
     /// The pages of each chunk of a space.
     pub(crate) fn chunks(&self, space: usize) -> &[u16]
         requires { space < length self.now.spaces.items }
@@ -217,4 +244,14 @@ pub(crate) fn place_among(first: usize, chunks: &[u16], page: u32) -> Option<(us
         left -= pages;
     }
     None
+}
+
+fn copy_spaces(spaces: &ArrayVec<Space, SPACES>) -> ArrayVec<Space, SPACES>
+    ensures { result.items ≡ spaces.now.items }
+{
+    let mut copies = ArrayVec::new();
+    for index in 0..spaces.len() {
+        copies.push(spaces[index].copy());
+    }
+    copies
 }

@@ -62,6 +62,16 @@ impl ChunkTable {
         ChunkTable { layout, text }
     }
 
+    /// Another table of the same configuration.
+    pub fn copy(&self) -> ChunkTable
+        ensures { result ≡ self.now }
+    {
+        ChunkTable {
+            layout: self.layout.copy(),
+            text: self.text,
+        }
+    }
+
     /// The text of the configuration, written to the front of the buffer; its length in bytes. The bytes
     /// behind it stay.
     pub fn text(&self, buf: &mut [u8; 1024]) -> usize

@@ -7,14 +7,14 @@ use Rattle.ol_values.specs.Config.{Config}
 use Rattle.ol_chunks.specs.Places.{lies_in}
 use Rattle.ol_chunks.specs.declared.table.Area.{Area}
 use Rattle.ol_ports.specs.Disk.{Bytes, Past, Rest, Syncs, Writes, is_within, seen}
-use Rattle.ol_ports.specs.Frames.{FramedIn, IsDurable, SameBut, TornFrom}
+use Rattle.ol_ports.specs.Frames.{FramedIn, IsDurable, ReadsOutside, SameBut, TornFrom}
 use Rattle.ol_ports.specs.Stops.{Stops}
 use Rattle.ol_ports.proofs.DiskLaws.{rest-seen, within-elsewhere}
 use Rattle.ol_ports.proofs.DiskSteps.{sync_seen, write_rest, write_seen}
-use Rattle.ol_ports.proofs.FrameLaws.{framed_wider}
+use Rattle.ol_ports.proofs.FrameLaws.{framed_wider, outside_durable, outside_write}
 use Rattle.ol_ports.proofs.StopLaws.{stops_weaker, stops_write}
 use Rattle.ol_physlog.specs.Heads.{IsPage, body_bytes}
-use Rattle.ol_physlog.specs.Places.{Counts, HasBody, ReadsOutside, Idle, entry_at, gate_at, generation_at, head_page, is_open_at}
+use Rattle.ol_physlog.specs.Places.{Counts, HasBody, Idle, entry_at, gate_at, generation_at, head_page, is_open_at}
 use Rattle.ol_physlog.specs.States.{HoldsEntries, IsFree, IsLaid, IsLaidOn, IsLog, Log, entry_number, gate_of, has_entry, image_at, next_entry, place_at, with_place, with_shut}
 use Rattle.ol_physlog.specs.declared.place.Place.{Place}
 use Rattle.ol_physlog.proofs.Lists.{last_item}
@@ -43,20 +43,11 @@ outside_entry s k page at n is lt here c p i out = within-elsewhere s.area.chunk
 pub framed_entry : (past : Past) (s : Log) (k page at n : ℕ) (d : Bytes) → IsLog s → k < s.area.count → IsOf s.area k page → TornFrom past s.area.chunk page at n d → FramedIn past (lies_in s.area) d
 framed_entry past s k page at n d is lt here torn = framed_wider past (is_within s.area.chunk page at n) (λ c p i. lies_in s.area c p) d (outside_entry s k page at n is lt here) torn
 
-pub reads_write : {E : Type 0} (old new : Past) (s : Log) (k page at : ℕ) (bytes : List ℕ) (result : Result Unit E) → IsLog s → k < s.area.count → IsOf s.area k page → Writes old new s.area.chunk page at bytes result → is_ok result ≡ true → ReadsOutside old new s.area
-reads_write old new s k page at bytes result is lt here w good c p i out = (write_seen old new s.area.chunk page at bytes result w good).0 c p i (outside_entry s k page at (length bytes) is lt here c p i out)
+pub reads_write : {E : Type 0} (old new : Past) (s : Log) (k page at : ℕ) (bytes : List ℕ) (result : Result Unit E) → IsLog s → k < s.area.count → IsOf s.area k page → Writes old new s.area.chunk page at bytes result → is_ok result ≡ true → ReadsOutside old new (lies_in s.area)
+reads_write old new s k page at bytes result is lt here w good = outside_write old new (lies_in s.area) s.area.chunk page at bytes result w good (outside_entry s k page at (length bytes) is lt here)
 
-pub reads_durable : (old new : Past) (s : Log) (k page at : ℕ) (bytes : List ℕ) → IsLog s → k < s.area.count → IsOf s.area k page → IsDurable old new s.area.chunk page at bytes → ReadsOutside old new s.area
-reads_durable old new s k page at bytes is lt here durable c p i out = durable.elsewhere c p i (outside_entry s k page at (length bytes) is lt here c p i out)
-
-pub reads_both : (old mid new : Past) (a : Area) → ReadsOutside old mid a → ReadsOutside mid new a → ReadsOutside old new a
-reads_both old mid new a first second c p i out = second c p i out ∙ first c p i out
-
-pub reads_none : (past : Past) (a : Area) → ReadsOutside past past a
-reads_none past a c p i out = refl
-
-pub reads_sync : {E : Type 0} (old new : Past) (a : Area) (chunk : ℕ) (result : Result Unit E) → Syncs old new chunk result → is_ok result ≡ true → ReadsOutside old new a
-reads_sync old new a chunk result sync good c p i out = ap (λ (b : Bytes). b c p i) (sync_seen old new chunk result sync good)
+pub reads_durable : (old new : Past) (s : Log) (k page at : ℕ) (bytes : List ℕ) → IsLog s → k < s.area.count → IsOf s.area k page → IsDurable old new s.area.chunk page at bytes → ReadsOutside old new (lies_in s.area)
+reads_durable old new s k page at bytes is lt here durable = outside_durable old new (lies_in s.area) s.area.chunk page at bytes durable (outside_entry s k page at (length bytes) is lt here)
 
 -- ---- an open gate of another generation is closed
 

@@ -1,11 +1,11 @@
 mod AddLaws
 mod BeginLaws
-mod EmptyLaws
+pub mod EmptyLaws
 mod FoundLaws
-mod KeptLaws
+pub mod KeptLaws
 mod Lists
 mod PlaceLaws
 mod ReadLaws
 mod SettleLaws
-mod StateLaws
-mod StopLaws
+pub mod StateLaws
+pub mod StopLaws

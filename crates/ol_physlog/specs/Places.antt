@@ -4,8 +4,7 @@ use Rattle.std.specs.Prelude.{Bool, List, length, ℕ, ◌*◌, ◌+◌, ◌<◌
 use Rattle.ol_values.specs.Config.{Config}
 use Rattle.ol_chunks.specs.Places.{lies_in, physical_area}
 use Rattle.ol_chunks.specs.declared.table.Area.{Area}
-use Rattle.ol_ports.specs.Disk.{Bytes, Past, page_list, seen}
-use Rattle.ol_ports.specs.Frames.{SameBut}
+use Rattle.ol_ports.specs.Disk.{Bytes, page_list}
 use Rattle.ol_physlog.specs.Heads.{body_bytes, generation_in, head_in}
 use Rattle.ol_physlog.specs.declared.place.Place.{Place}
 use Rattle.ol_physlog.specs.declared.head.Head.{Head}
@@ -63,10 +62,6 @@ in_physical c chunk page = lies_in (physical_area c) chunk page
 -- the disk has all pages of an area
 abbrev pub HasArea : Area → (ℕ → ℕ) → Type 0
 HasArea a sizes = a.first + a.count * a.pages ≤ sizes a.chunk
-
--- all pages outside an area read as before
-abbrev pub ReadsOutside : Past → Past → Area → Type 0
-ReadsOutside old new a = SameBut (λ c p i. lies_in a c p) (seen old) (seen new)
 
 -- no byte of a part is in an area
 abbrev pub AreApart : Area → (ℕ → ℕ → ℕ → Bool) → Type 0

@@ -7,10 +7,10 @@ ghost use Rattle.indexmap.specs.IndexSet as set;
 ghost use Rattle.ol_chunks.specs.Places.{lies_in, physical_area};
 ghost use Rattle.ol_ports.specs.Causes.{HasChunkCause};
 ghost use Rattle.ol_ports.specs.Disk.{Past, Syncs, seen};
-ghost use Rattle.ol_ports.specs.Frames.{FramedIn, IsSettledIn};
+ghost use Rattle.ol_ports.specs.Frames.{FramedIn, IsSettledIn, ReadsOutside};
 ghost use Rattle.ol_ports.specs.Stops.{Stops};
 ghost use Rattle.ol_physlog.specs.Heads.{IsPage};
-ghost use Rattle.ol_physlog.specs.Places.{HasArea, ReadsOutside, head_page, in_physical};
+ghost use Rattle.ol_physlog.specs.Places.{HasArea, head_page, in_physical};
 ghost use Rattle.ol_physlog.specs.Reading.{Tells, log_of};
 ghost use Rattle.ol_physlog.specs.States.{NoneLater, AreShut, HoldsEntries, IsClosing, IsFree, IsLaid, IsLog, IsOpening, Log as LogValue, emptied, entry_number, gate_of, has_entry, next_entry, unsettled, with_added, with_open, with_place, with_settled, with_shut};
 
@@ -117,7 +117,7 @@ impl PhysLog {
         ensures value { OnOk result (self.new ≡ with_added self.old (record { space = space; page = page })) }
         ensures kept { self.new.area ≡ self.old.area }
         ensures frame { D.tells → Stops (D.past disk.old) (D.past disk.new) (FramedIn (D.past disk.old) (lies_in self.old.area)) }
-        ensures reads { D.tells → OnOk result (ReadsOutside (D.past disk.old) (D.past disk.new) self.old.area) }
+        ensures reads { D.tells → OnOk result (ReadsOutside (D.past disk.old) (D.past disk.new) (lies_in self.old.area)) }
         ensures sizes { D.sizes disk.new ≡ D.sizes disk.old }
         ensures cause { HasChunkCause self.old.area.chunk (D.fault_counts disk.old) (D.fault_counts disk.new) result }
     {
@@ -149,7 +149,7 @@ impl PhysLog {
         ensures kept { OnErr result (self.new ≡ self.old) }
         ensures idle { self.old.settled ≡ length self.old.places → (disk.new ≡ disk.old) × (result ≡ Ok tt) }
         ensures frame { D.tells → Stops (D.past disk.old) (D.past disk.new) (FramedIn (D.past disk.old) (lies_in self.old.area)) }
-        ensures reads { D.tells → OnOk result (ReadsOutside (D.past disk.old) (D.past disk.new) self.old.area) }
+        ensures reads { D.tells → OnOk result (ReadsOutside (D.past disk.old) (D.past disk.new) (lies_in self.old.area)) }
         ensures sizes { D.sizes disk.new ≡ D.sizes disk.old }
         ensures cause { HasChunkCause self.old.area.chunk (D.fault_counts disk.old) (D.fault_counts disk.new) result }
     {
@@ -178,7 +178,7 @@ impl PhysLog {
         ensures kept { OnErr result (self.new ≡ self.old) }
         ensures idle { list_any (λ b. b) self.old.gates ≡ false → (disk.new ≡ disk.old) × (result ≡ Ok tt) }
         ensures frame { D.tells → Stops (D.past disk.old) (D.past disk.new) (FramedIn (D.past disk.old) (lies_in self.old.area)) }
-        ensures reads { D.tells → OnOk result (ReadsOutside (D.past disk.old) (D.past disk.new) self.old.area) }
+        ensures reads { D.tells → OnOk result (ReadsOutside (D.past disk.old) (D.past disk.new) (lies_in self.old.area)) }
         ensures sizes { D.sizes disk.new ≡ D.sizes disk.old }
         ensures cause { HasChunkCause self.old.area.chunk (D.fault_counts disk.old) (D.fault_counts disk.new) result }
     {
@@ -233,7 +233,7 @@ impl PhysLog {
         ensures stops { D.tells → (c : Config) (images : List (List ℕ)) → IsLaid c (D.past disk.old) self.now images → IsFree self.now entry → Stops (D.past disk.old) (D.past disk.new) (HoldsEntries c self.now images) }
         ensures ok { D.tells → (c : Config) (images : List (List ℕ)) → IsLaid c (D.past disk.old) self.now images → IsFree self.now entry → OnOk result (IsLaid c (D.past disk.new) (with_shut self.now entry) images) }
         ensures frame { D.tells → Stops (D.past disk.old) (D.past disk.new) (FramedIn (D.past disk.old) (lies_in self.now.area)) }
-        ensures reads { D.tells → OnOk result (ReadsOutside (D.past disk.old) (D.past disk.new) self.now.area) }
+        ensures reads { D.tells → OnOk result (ReadsOutside (D.past disk.old) (D.past disk.new) (lies_in self.now.area)) }
         ensures sizes { D.sizes disk.new ≡ D.sizes disk.old }
         ensures cause { HasChunkCause self.now.area.chunk (D.fault_counts disk.old) (D.fault_counts disk.new) result }
     {
@@ -256,7 +256,7 @@ impl PhysLog {
         ensures stops { D.tells → (c : Config) (images : List (List ℕ)) → IsLaid c (D.past disk.old) self.now images → entry ≡ next_entry self.now → length self.now.places < self.now.area.count → gate_of self.now entry ≡ false → Stops (D.past disk.old) (D.past disk.new) (HoldsEntries c self.now images) }
         ensures ok { D.tells → (c : Config) (images : List (List ℕ)) → IsLaid c (D.past disk.old) self.now images → entry ≡ next_entry self.now → length self.now.places < self.now.area.count → gate_of self.now entry ≡ false → IsPage c place → has_entry self.now place ≡ false → OnOk result (IsLaid c (D.past disk.new) (with_place self.now place) (images ++ image.now ∷ [])) }
         ensures frame { D.tells → Stops (D.past disk.old) (D.past disk.new) (FramedIn (D.past disk.old) (lies_in self.now.area)) }
-        ensures reads { D.tells → OnOk result (ReadsOutside (D.past disk.old) (D.past disk.new) self.now.area) }
+        ensures reads { D.tells → OnOk result (ReadsOutside (D.past disk.old) (D.past disk.new) (lies_in self.now.area)) }
         ensures sizes { D.sizes disk.new ≡ D.sizes disk.old }
         ensures cause { HasChunkCause self.now.area.chunk (D.fault_counts disk.old) (D.fault_counts disk.new) result }
     {
@@ -318,7 +318,7 @@ impl PhysLog {
         ensures stops { D.tells → (c : Config) (images : List (List ℕ)) → IsOpening c (D.past disk.old) self.now images turn → self.now.settled ≤ turn → Stops (D.past disk.old) (D.past disk.new) (HoldsEntries c self.now images) }
         ensures ok { D.tells → (c : Config) (images : List (List ℕ)) → IsOpening c (D.past disk.old) self.now images turn → self.now.settled ≤ turn → OnOk result (IsOpening c (D.past disk.new) self.now images (turn + 1)) }
         ensures frame { D.tells → Stops (D.past disk.old) (D.past disk.new) (FramedIn (D.past disk.old) (lies_in self.now.area)) }
-        ensures reads { D.tells → OnOk result (ReadsOutside (D.past disk.old) (D.past disk.new) self.now.area) }
+        ensures reads { D.tells → OnOk result (ReadsOutside (D.past disk.old) (D.past disk.new) (lies_in self.now.area)) }
         ensures sizes { D.sizes disk.new ≡ D.sizes disk.old }
         ensures cause { HasChunkCause self.now.area.chunk (D.fault_counts disk.old) (D.fault_counts disk.new) result }
     {
@@ -332,7 +332,7 @@ impl PhysLog {
         ensures stops { D.tells → (c : Config) (images : List (List ℕ)) → IsOpening c (D.past disk.old) self.now images self.now.settled → Stops (D.past disk.old) (D.past disk.new) (HoldsEntries c self.now images) }
         ensures ok { D.tells → (c : Config) (images : List (List ℕ)) → IsOpening c (D.past disk.old) self.now images self.now.settled → OnOk result (IsOpening c (D.past disk.new) self.now images (length self.now.places)) }
         ensures frame { D.tells → Stops (D.past disk.old) (D.past disk.new) (FramedIn (D.past disk.old) (lies_in self.now.area)) }
-        ensures reads { D.tells → OnOk result (ReadsOutside (D.past disk.old) (D.past disk.new) self.now.area) }
+        ensures reads { D.tells → OnOk result (ReadsOutside (D.past disk.old) (D.past disk.new) (lies_in self.now.area)) }
         ensures sizes { D.sizes disk.new ≡ D.sizes disk.old }
         ensures cause { HasChunkCause self.now.area.chunk (D.fault_counts disk.old) (D.fault_counts disk.new) result }
     {
@@ -352,7 +352,7 @@ impl PhysLog {
         ensures stops { D.tells → (c : Config) (images : List (List ℕ)) → IsLaid c (D.past disk.old) self.now images → Stops (D.past disk.old) (D.past disk.new) (HoldsEntries c self.now images) }
         ensures ok { D.tells → (c : Config) (images : List (List ℕ)) → IsLaid c (D.past disk.old) self.now images → OnOk result (IsLaid c (D.past disk.new) (with_settled self.now) images) }
         ensures frame { D.tells → Stops (D.past disk.old) (D.past disk.new) (FramedIn (D.past disk.old) (lies_in self.now.area)) }
-        ensures reads { D.tells → OnOk result (ReadsOutside (D.past disk.old) (D.past disk.new) self.now.area) }
+        ensures reads { D.tells → OnOk result (ReadsOutside (D.past disk.old) (D.past disk.new) (lies_in self.now.area)) }
         ensures sizes { D.sizes disk.new ≡ D.sizes disk.old }
         ensures cause { HasChunkCause self.now.area.chunk (D.fault_counts disk.old) (D.fault_counts disk.new) result }
     {
@@ -373,7 +373,7 @@ impl PhysLog {
         ensures stops { D.tells → (c : Config) (generation : ℕ) → IsClosing (D.past disk.old) self.now entry → self.now.generation < generation → Stops (D.past disk.old) (D.past disk.new) (HoldsEntries c (emptied self.now generation) []) }
         ensures ok { D.tells → IsClosing (D.past disk.old) self.now entry → OnOk result (IsClosing (D.past disk.new) self.now (entry + 1)) }
         ensures frame { D.tells → Stops (D.past disk.old) (D.past disk.new) (FramedIn (D.past disk.old) (lies_in self.now.area)) }
-        ensures reads { D.tells → OnOk result (ReadsOutside (D.past disk.old) (D.past disk.new) self.now.area) }
+        ensures reads { D.tells → OnOk result (ReadsOutside (D.past disk.old) (D.past disk.new) (lies_in self.now.area)) }
         ensures sizes { D.sizes disk.new ≡ D.sizes disk.old }
         ensures cause { HasChunkCause self.now.area.chunk (D.fault_counts disk.old) (D.fault_counts disk.new) result }
     {
@@ -389,7 +389,7 @@ impl PhysLog {
         ensures stops { D.tells → (c : Config) (generation : ℕ) → IsClosing (D.past disk.old) self.now 0 → self.now.generation < generation → Stops (D.past disk.old) (D.past disk.new) (HoldsEntries c (emptied self.now generation) []) }
         ensures ok { D.tells → IsClosing (D.past disk.old) self.now 0 → OnOk result (IsClosing (D.past disk.new) self.now self.now.area.count) }
         ensures frame { D.tells → Stops (D.past disk.old) (D.past disk.new) (FramedIn (D.past disk.old) (lies_in self.now.area)) }
-        ensures reads { D.tells → OnOk result (ReadsOutside (D.past disk.old) (D.past disk.new) self.now.area) }
+        ensures reads { D.tells → OnOk result (ReadsOutside (D.past disk.old) (D.past disk.new) (lies_in self.now.area)) }
         ensures sizes { D.sizes disk.new ≡ D.sizes disk.old }
         ensures cause { HasChunkCause self.now.area.chunk (D.fault_counts disk.old) (D.fault_counts disk.new) result }
     {
@@ -417,7 +417,7 @@ impl PhysLog {
         ensures ok { D.tells → (c : Config) (images : List (List ℕ)) → IsLaid c (D.past disk.old) self.now images → OnOk result (AreShut (D.past disk.new) self.now.area) }
         ensures idle { list_any (λ b. b) self.now.gates ≡ false → (disk.new ≡ disk.old) × (result ≡ Ok tt) }
         ensures frame { D.tells → Stops (D.past disk.old) (D.past disk.new) (FramedIn (D.past disk.old) (lies_in self.now.area)) }
-        ensures reads { D.tells → OnOk result (ReadsOutside (D.past disk.old) (D.past disk.new) self.now.area) }
+        ensures reads { D.tells → OnOk result (ReadsOutside (D.past disk.old) (D.past disk.new) (lies_in self.now.area)) }
         ensures sizes { D.sizes disk.new ≡ D.sizes disk.old }
         ensures cause { HasChunkCause self.now.area.chunk (D.fault_counts disk.old) (D.fault_counts disk.new) result }
     {

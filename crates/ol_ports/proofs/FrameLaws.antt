@@ -1,8 +1,9 @@
 -- Calls on one part of a disk leave the others as they were.
-use Rattle.std.proofs.Common.{◌≡◌, ◌⊎◌, ⊎_elim, inl, inr, Bool, List, [], false, true, ℕ, ◌<◌, ◌∙◌, sym, refl}
-use Rattle.ol_ports.specs.Disk.{Bytes, Past, Rest, is_open, seen}
-use Rattle.ol_ports.specs.Frames.{FramedAt, IsQuiet, IsSettledIn}
+use Rattle.std.proofs.Common.{◌≡◌, ◌⊎◌, ⊎_elim, inl, inr, Bool, List, [], false, true, ℕ, ◌<◌, ◌∙◌, sym, refl, ap, length, Result, is_ok}
+use Rattle.ol_ports.specs.Disk.{Bytes, Past, Rest, Syncs, Writes, is_open, is_within, seen}
+use Rattle.ol_ports.specs.Frames.{FramedAt, IsDurable, IsQuiet, IsSettledIn, ReadsOutside}
 use Rattle.ol_ports.proofs.DiskLaws.{rest-seen}
+use Rattle.ol_ports.proofs.DiskSteps.{sync_seen, write_seen}
 
 -- what is not in a part is not in one within it
 pub outside : (inner outer : Bool) → (inner ≡ true → outer ≡ true) → outer ≡ false → inner ≡ false
@@ -54,3 +55,25 @@ quiet_kept old new a quiet settled frame d rest c p i is = each (a c p) refl
         let f = frame d rest in
         let g = frame (seen new) (rest-seen new) in
         f.same c p i is_out ∙ quiet f.origin f.rest c p i refl ∙ sym (quiet g.origin g.rest c p i refl) ∙ sym (g.same c p i is_out)
+
+-- ---- what is read outside of the pages that are written
+
+pub outside_none : (past : Past) (a : ℕ → ℕ → Bool) → ReadsOutside past past a
+outside_none past a c p i is_out = refl
+
+pub outside_both : (old mid new : Past) (a : ℕ → ℕ → Bool) → ReadsOutside old mid a → ReadsOutside mid new a → ReadsOutside old new a
+outside_both old mid new a first second c p i is_out = second c p i is_out ∙ first c p i is_out
+
+pub outside_wider : (old new : Past) (a b : ℕ → ℕ → Bool) → ((c p : ℕ) → b c p ≡ false → a c p ≡ false) → ReadsOutside old new a → ReadsOutside old new b
+outside_wider old new a b wider reads c p i is_out = reads c p i (wider c p is_out)
+
+pub outside_sync : {E : Type 0} (old new : Past) (a : ℕ → ℕ → Bool) (chunk : ℕ) (result : Result Unit E) → Syncs old new chunk result → is_ok result ≡ true → ReadsOutside old new a
+outside_sync old new a chunk result s good c p i is_out = ap (λ (b : Bytes). b c p i) (sync_seen old new chunk result s good)
+
+pub outside_write : {E : Type 0} (old new : Past) (a : ℕ → ℕ → Bool) (chunk page offset : ℕ) (bytes : List ℕ) (result : Result Unit E) → Writes old new chunk page offset bytes result → is_ok result ≡ true
+    → ((c p i : ℕ) → a c p ≡ false → is_within chunk page offset (length bytes) c p i ≡ false) → ReadsOutside old new a
+outside_write old new a chunk page offset bytes result w good inside c p i is_out = (write_seen old new chunk page offset bytes result w good).0 c p i (inside c p i is_out)
+
+pub outside_durable : (old new : Past) (a : ℕ → ℕ → Bool) (chunk page offset : ℕ) (bytes : List ℕ) → IsDurable old new chunk page offset bytes
+    → ((c p i : ℕ) → a c p ≡ false → is_within chunk page offset (length bytes) c p i ≡ false) → ReadsOutside old new a
+outside_durable old new a chunk page offset bytes durable inside c p i is_out = durable.elsewhere c p i (inside c p i is_out)

@@ -19,6 +19,10 @@ SameBut is_part old new = (c p i : ℕ) → is_part c p i ≡ false → new c p 
 abbrev pub ReadsAs : (ℕ → ℕ → ℕ → Bool) → Bytes → Bytes → Type 0
 ReadsAs is_part wanted d = (c p i : ℕ) → is_part c p i ≡ true → i < 2048 → d c p i ≡ wanted c p i
 
+-- all pages that is_in does not name, by chunk and page, read as before
+abbrev pub ReadsOutside : Past → Past → (ℕ → ℕ → Bool) → Type 0
+ReadsOutside old new is_in = SameBut (λ c p i. is_in c p) (seen old) (seen new)
+
 -- what a stop before might have left, but for the bytes that is_part names
 pub record FramedAt (past : Past) (is_part : ℕ → ℕ → ℕ → Bool) (d : Bytes) : Type 0 where
   pub origin : Bytes

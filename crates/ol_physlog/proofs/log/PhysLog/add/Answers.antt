@@ -1,12 +1,11 @@
 use Rattle.std.proofs.Common.{ℕ, [], ◌++◌, ◌<◌, ◌∷◌, ◌≡◌, ap, false, length, subst, sym}
 use Rattle.ol_chunks.specs.Places.{lies_in}
 use Rattle.ol_chunks.specs.declared.table.Area.{Area}
-use Rattle.ol_ports.specs.Frames.{FramedIn}
+use Rattle.ol_ports.specs.Frames.{FramedIn, ReadsOutside}
 use Rattle.ol_ports.specs.Stops.{Stops}
+use Rattle.ol_ports.proofs.FrameLaws.{outside_both}
 use Rattle.ol_ports.proofs.StopLaws.{stops_both, stops_framed, stops_weaker}
-use Rattle.ol_physlog.specs.Places.{ReadsOutside}
 use Rattle.ol_physlog.specs.States.{HoldsEntries, IsFree, IsLaid, Log, gate_of, has_entry, next_entry}
-use Rattle.ol_physlog.proofs.AddLaws.{reads_both}
 use Rattle.ol_physlog.proofs.StateLaws.{gate_now_shut, holds_shut, next_free}
 use Rattle.ol_physlog.proofs.log.PhysLog.add.Goals as goal
 use Rattle.ol_physlog.proofs.log.PhysLog.add.Goals.{After-close_gate, After-write_entry}
@@ -63,4 +62,4 @@ returns-clause-frame g c tells =
 pub returns-clause-reads : goal.returns-clause-reads
 returns-clause-reads g c tells =
     let area = ap (λ (t : Log). t.area) c.note_shut.ensures in
-    reads_both _ _ _ _ (c.in-Ok.ensures.reads tells) (subst (λ (a : Area). ReadsOutside (g.D.Disk.past c.close_gate.new.disk) (g.D.Disk.past c.write_entry.new.disk) a) area (c.in-Ok-write_entry.ensures.reads tells))
+    outside_both _ _ _ _ (c.in-Ok.ensures.reads tells) (subst (λ (a : Area). ReadsOutside (g.D.Disk.past c.close_gate.new.disk) (g.D.Disk.past c.write_entry.new.disk) (lies_in a)) area (c.in-Ok-write_entry.ensures.reads tells))

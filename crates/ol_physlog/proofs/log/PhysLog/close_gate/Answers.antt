@@ -1,7 +1,7 @@
 use Rattle.std.proofs.Common.{inl, refl, sym, ◌∙◌}
-use Rattle.ol_ports.proofs.FrameLaws.{framed_none}
+use Rattle.ol_ports.proofs.FrameLaws.{framed_none, outside_none}
 use Rattle.ol_ports.proofs.StopLaws.{stops_none, stops_weaker}
-use Rattle.ol_physlog.proofs.AddLaws.{closed, closed_already, closing_stop, durable_here, framed_entry, on_ok, reads_durable, reads_none, torn_here}
+use Rattle.ol_physlog.proofs.AddLaws.{closed, closed_already, closing_stop, durable_here, framed_entry, on_ok, reads_durable, torn_here}
 use Rattle.ol_physlog.proofs.StateLaws.{laid_holds}
 use Rattle.ol_physlog.proofs.log.PhysLog.close_gate.Goals as goal
 
@@ -29,7 +29,7 @@ returns-clause-frame g c tells =
     stops_weaker _ _ _ _ (λ d torn. framed_entry _ c.args.self.now c.args.entry _ 0 1 d c.page.ensures.log c.requires.entry (inl refl) (torn_here _ _ _ _ _ 0 1 d c.chunk.ensures c.page.ensures.value torn)) (c.write_synced.ensures.stops tells)
 
 pub returns-then-not-is_open-clause-reads : goal.returns-then-not-is_open-clause-reads
-returns-then-not-is_open-clause-reads g c tells = reads_none _ _
+returns-then-not-is_open-clause-reads g c tells = outside_none _ _
 
 pub returns-clause-reads : goal.returns-clause-reads
 returns-clause-reads g c tells =

@@ -1,6 +1,6 @@
-use Rattle.ol_ports.proofs.FrameLaws.{framed_none}
+use Rattle.ol_ports.proofs.FrameLaws.{framed_none, outside_both, outside_sync}
 use Rattle.ol_ports.proofs.StopLaws.{stops_both, stops_framed, stops_none, stops_sync}
-use Rattle.ol_physlog.proofs.AddLaws.{on_ok_if, reads_both, reads_sync}
+use Rattle.ol_physlog.proofs.AddLaws.{on_ok_if}
 use Rattle.ol_physlog.proofs.SettleLaws.{opening_done, opening_start}
 use Rattle.ol_physlog.proofs.StateLaws.{laid_holds}
 use Rattle.ol_physlog.proofs.log.PhysLog.open_all.Goals as goal
@@ -39,4 +39,4 @@ returns-in-Err-open_gates-clause-frame g c tells =
 pub returns-in-Ok-open_gates-clause-reads : goal.returns-in-Ok-open_gates-clause-reads
 returns-in-Ok-open_gates-clause-reads g c tells =
     on_ok_if c.sync-in-Ok-open_gates.result
-    (λ good. reads_both _ _ _ _ (reads_both _ _ _ _ (reads_sync _ _ _ _ c.sync.result (c.sync.ensures.past tells) (search)) (c.in-Ok-open_gates.ensures.reads tells)) (reads_sync _ _ _ _ c.sync-in-Ok-open_gates.result (c.sync-in-Ok-open_gates.ensures.past tells) good))
+    (λ good. outside_both _ _ _ _ (outside_both _ _ _ _ (outside_sync _ _ _ _ c.sync.result (c.sync.ensures.past tells) (search)) (c.in-Ok-open_gates.ensures.reads tells)) (outside_sync _ _ _ _ c.sync-in-Ok-open_gates.result (c.sync-in-Ok-open_gates.ensures.past tells) good))

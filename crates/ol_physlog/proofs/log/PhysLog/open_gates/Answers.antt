@@ -1,10 +1,9 @@
 use Rattle.std.proofs.Common.{ℕ, arith, length, refl, subst, sym, ◌∙◌, ◌≡◌}
-use Rattle.ol_ports.proofs.FrameLaws.{framed_none}
+use Rattle.ol_ports.proofs.FrameLaws.{framed_none, outside_both, outside_none}
 use Rattle.ol_ports.proofs.StopLaws.{stops_both, stops_framed, stops_none}
 use Rattle.ol_physlog.specs.Places.{HasArea}
 use Rattle.ol_physlog.specs.States.{IsOpening}
 use Rattle.ol_physlog.proofs.SettleLaws.{opening_held}
-use Rattle.ol_physlog.proofs.AddLaws.{reads_both, reads_none}
 use Rattle.ol_physlog.proofs.log.PhysLog.open_gates.Goals as goal
 
 pub loop-turn-init : goal.loop-turn-init
@@ -14,7 +13,7 @@ loop-turn-init g c = record {
   stops = λ tells config images o. stops_none _ _ (opening_held config c.args.self.now images _ _ o);
   opening = λ tells config images o. subst (λ (n : ℕ). IsOpening config (g.D.Disk.past c.args.disk.now) c.args.self.now images n) (sym c.settled-turn.ensures) o;
   frame = λ tells. stops_none _ _ (λ d rest. framed_none _ _ d rest);
-  reads = λ tells. reads_none _ _;
+  reads = λ tells. outside_none _ _;
   sizes = refl;
   faults = refl;
 }
@@ -36,7 +35,7 @@ loop-turn-preserved g c = record {
   stops = λ tells config images o. stops_both _ _ _ _ (c.loop-turn.invariant.stops tells config images o) (c.in-Ok.ensures.stops tells config images (c.loop-turn.invariant.opening tells config images o) c.loop-turn.invariant.from);
   opening = λ tells config images o. c.in-Ok.ensures.ok tells config images (c.loop-turn.invariant.opening tells config images o) c.loop-turn.invariant.from;
   frame = λ tells. stops_framed _ _ _ _ (c.loop-turn.invariant.frame tells) (c.in-Ok.ensures.frame tells);
-  reads = λ tells. reads_both _ _ _ _ (c.loop-turn.invariant.reads tells) (c.in-Ok.ensures.reads tells);
+  reads = λ tells. outside_both _ _ _ _ (c.loop-turn.invariant.reads tells) (c.in-Ok.ensures.reads tells);
   sizes = c.in-Ok.ensures.sizes ∙ c.loop-turn.invariant.sizes;
   faults = c.in-Ok.ensures.cause.kept ∙ c.loop-turn.invariant.faults;
 }

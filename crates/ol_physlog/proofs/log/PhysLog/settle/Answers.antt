@@ -1,8 +1,7 @@
 use Rattle.std.proofs.Common.{arith, sym, subst}
-use Rattle.ol_ports.proofs.FrameLaws.{framed_none}
+use Rattle.ol_ports.proofs.FrameLaws.{framed_none, outside_none}
 use Rattle.ol_ports.proofs.StopLaws.{stops_none}
 use Rattle.ol_physlog.specs.States.{IsLaid, Log}
-use Rattle.ol_physlog.proofs.AddLaws.{reads_none}
 use Rattle.ol_physlog.proofs.SettleLaws.{settled_same}
 use Rattle.ol_physlog.proofs.StateLaws.{laid_holds}
 use Rattle.ol_physlog.proofs.log.PhysLog.settle.Goals as goal
@@ -20,4 +19,4 @@ pub returns-clause-ok : goal.returns-clause-ok
 returns-clause-ok g c tells config images laid = subst (λ (t : Log). IsLaid config (g.D.Disk.past c.open_all.new.disk) t images) (sym c.note_settled.ensures) (c.in-Ok.ensures.ok tells config images laid)
 
 pub returns-then-settled-added-clause-reads : goal.returns-then-settled-added-clause-reads
-returns-then-settled-added-clause-reads g c tells = reads_none _ _
+returns-then-settled-added-clause-reads g c tells = outside_none _ _

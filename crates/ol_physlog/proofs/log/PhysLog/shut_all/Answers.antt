@@ -1,7 +1,7 @@
 use Rattle.std.proofs.Common.{sym, ◌∙◌}
-use Rattle.ol_ports.proofs.FrameLaws.{framed_none}
+use Rattle.ol_ports.proofs.FrameLaws.{framed_none, outside_both, outside_none, outside_sync}
 use Rattle.ol_ports.proofs.StopLaws.{stops_none, stops_sync}
-use Rattle.ol_physlog.proofs.AddLaws.{on_ok_if, reads_both, reads_none, reads_sync}
+use Rattle.ol_physlog.proofs.AddLaws.{on_ok_if}
 use Rattle.ol_physlog.proofs.EmptyLaws.{closing_begin, closing_done, closing_none, shut_already}
 use Rattle.ol_physlog.proofs.log.PhysLog.shut_all.Goals as goal
 
@@ -29,7 +29,7 @@ pub returns-in-Err-clause-stops : goal.returns-in-Err-clause-stops
 returns-in-Err-clause-stops g c tells config images generation laid newer = c.in-Err.ensures.stops tells config generation (closing_begin config _ c.args.self.now images laid) newer
 
 pub returns-then-not-has_open-clause-reads : goal.returns-then-not-has_open-clause-reads
-returns-then-not-has_open-clause-reads g c tells = reads_none _ _
+returns-then-not-has_open-clause-reads g c tells = outside_none _ _
 
 pub returns-in-Ok-clause-reads : goal.returns-in-Ok-clause-reads
-returns-in-Ok-clause-reads g c tells = on_ok_if c.sync.result (λ good. reads_both _ _ _ _ (c.in-Ok.ensures.reads tells) (reads_sync _ _ _ _ c.sync.result (c.sync.ensures.past tells) good))
+returns-in-Ok-clause-reads g c tells = on_ok_if c.sync.result (λ good. outside_both _ _ _ _ (c.in-Ok.ensures.reads tells) (outside_sync _ _ _ _ c.sync.result (c.sync.ensures.past tells) good))

@@ -1,8 +1,8 @@
 use Rattle.std.proofs.Common.{inl, refl, sym, ◌∙◌}
-use Rattle.ol_ports.proofs.FrameLaws.{framed_none}
+use Rattle.ol_ports.proofs.FrameLaws.{framed_none, outside_none}
 use Rattle.ol_ports.proofs.StopLaws.{stops_none}
 use Rattle.ol_physlog.specs.Places.{head_page}
-use Rattle.ol_physlog.proofs.AddLaws.{on_ok_if, reads_none, reads_write, write_framed, writes_here}
+use Rattle.ol_physlog.proofs.AddLaws.{on_ok_if, reads_write, write_framed, writes_here}
 use Rattle.ol_physlog.proofs.EmptyLaws.{closing_next, closing_none, closing_skip, closing_write}
 use Rattle.ol_physlog.proofs.log.PhysLog.shut_gate.Goals as goal
 
@@ -28,7 +28,7 @@ returns-clause-frame g c tells =
     write_framed _ _ c.args.self.now c.args.entry (head_page c.args.self.now.area c.args.entry) 0 _ c.write_at.result c.page.ensures.log c.requires.entry (inl refl) (writes_here _ _ _ _ _ _ 0 _ c.write_at.result c.chunk.ensures c.page.ensures.value (c.write_at.ensures.past tells))
 
 pub returns-then-not-is_open-clause-reads : goal.returns-then-not-is_open-clause-reads
-returns-then-not-is_open-clause-reads g c tells = reads_none _ _
+returns-then-not-is_open-clause-reads g c tells = outside_none _ _
 
 pub returns-clause-reads : goal.returns-clause-reads
 returns-clause-reads g c tells =

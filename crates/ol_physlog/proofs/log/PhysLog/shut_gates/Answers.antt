@@ -1,10 +1,9 @@
 use Rattle.std.proofs.Common.{ℕ, arith, refl, subst, sym, ◌∙◌, ◌≡◌}
-use Rattle.ol_ports.proofs.FrameLaws.{framed_none}
+use Rattle.ol_ports.proofs.FrameLaws.{framed_none, outside_both, outside_none}
 use Rattle.ol_ports.proofs.StopLaws.{stops_both, stops_framed, stops_none}
 use Rattle.ol_physlog.specs.Places.{HasArea}
 use Rattle.ol_physlog.specs.States.{IsClosing}
 use Rattle.ol_physlog.proofs.EmptyLaws.{closing_none}
-use Rattle.ol_physlog.proofs.AddLaws.{reads_both, reads_none}
 use Rattle.ol_physlog.proofs.log.PhysLog.shut_gates.Goals as goal
 
 pub loop-entry-init : goal.loop-entry-init
@@ -13,7 +12,7 @@ loop-entry-init g c = record {
   stops = λ tells config generation o newer. closing_none config _ c.args.self.now 0 generation o newer;
   closing = λ tells o. o;
   frame = λ tells. stops_none _ _ (λ d rest. framed_none _ _ d rest);
-  reads = λ tells. reads_none _ _;
+  reads = λ tells. outside_none _ _;
   sizes = refl;
   faults = refl;
 }
@@ -34,7 +33,7 @@ loop-entry-preserved g c = record {
   stops = λ tells config generation o newer. stops_both _ _ _ _ (c.loop-entry.invariant.stops tells config generation o newer) (c.in-Ok.ensures.stops tells config generation (c.loop-entry.invariant.closing tells o) newer);
   closing = λ tells o. c.in-Ok.ensures.ok tells (c.loop-entry.invariant.closing tells o);
   frame = λ tells. stops_framed _ _ _ _ (c.loop-entry.invariant.frame tells) (c.in-Ok.ensures.frame tells);
-  reads = λ tells. reads_both _ _ _ _ (c.loop-entry.invariant.reads tells) (c.in-Ok.ensures.reads tells);
+  reads = λ tells. outside_both _ _ _ _ (c.loop-entry.invariant.reads tells) (c.in-Ok.ensures.reads tells);
   sizes = c.in-Ok.ensures.sizes ∙ c.loop-entry.invariant.sizes;
   faults = c.in-Ok.ensures.cause.kept ∙ c.loop-entry.invariant.faults;
 }

@@ -1,9 +1,10 @@
 use Rattle.std.proofs.Common.{ℕ, ◌+◌, ◌∙◌, ap, arith, inl, inr, refl, subst, ◌≡◌, false}
+use Rattle.ol_ports.proofs.FrameLaws.{outside_both}
 use Rattle.ol_ports.proofs.StopLaws.{stops_both, stops_framed}
 use Rattle.ol_physlog.specs.Heads.{body_bytes}
 use Rattle.ol_physlog.specs.Places.{head_page}
 use Rattle.ol_physlog.specs.States.{gate_of, next_entry}
-use Rattle.ol_physlog.proofs.AddLaws.{body_written, laid_more, on_ok_if, reads_both, reads_write, still_laid, stops_adding, write_framed, writes_here}
+use Rattle.ol_physlog.proofs.AddLaws.{body_written, laid_more, on_ok_if, reads_write, still_laid, stops_adding, write_framed, writes_here}
 use Rattle.ol_physlog.proofs.log.PhysLog.write_entry.Goals as goal
 
 pub returns-in-Err-clause-stops : goal.returns-in-Err-clause-stops
@@ -51,7 +52,7 @@ returns-in-Ok-clause-frame g c tells =
 pub returns-in-Ok-clause-reads : goal.returns-in-Ok-clause-reads
 returns-in-Ok-clause-reads g c tells =
     on_ok_if c.write_at-in-Ok.result
-    (λ good. reads_both _ _ _ _
+    (λ good. outside_both _ _ _ _
     (reads_write _ _ c.args.self.now c.args.entry (head_page c.args.self.now.area c.args.entry + 1) 0 _ c.write_at.result c.page.ensures.log c.requires.entry (inr refl)
     (writes_here _ _ _ _ _ _ 0 _ c.write_at.result c.chunk.ensures (ap (λ (n : ℕ). n + 1) c.page.ensures.value) (c.write_at.ensures.past tells)) (search))
     (reads_write _ _ c.args.self.now c.args.entry (head_page c.args.self.now.area c.args.entry) 1 _ c.write_at-in-Ok.result c.page.ensures.log c.requires.entry (inl refl)
