@@ -3,25 +3,22 @@ use Rattle.std.proofs.Common.{◌≡◌, ◌≢◌, ◌⊎◌, inl, inr, ⊎_eli
 use Rattle.std.specs.Prelude.{nat_le}
 use Rattle.std.proofs.lemmas.Bool.{and_parts, cases_eq}
 use Rattle.std.proofs.lemmas.Bool.Decides.{nat_tests}
+use Rattle.std.proofs.lemmas.Result.{on_ok_weaker}
 use Rattle.ol_values.specs.Config.{Config, log_pages}
 use Rattle.ol_values.specs.LogPages.{LogPage}
 use Rattle.ol_record.specs.LogPages.{page_in}
 use Rattle.ol_chunks.specs.Places.{log_area}
 use Rattle.ol_chunks.specs.declared.table.Area.{Area}
 use Rattle.ol_ports.specs.Disk.{Bytes, Past, Rest, Syncs, Writes, is_within, seen}
-use Rattle.ol_ports.specs.Frames.{FramedAt, FramedIn, IsDurable, IsSettledIn, SameBut, TornFrom}
+use Rattle.ol_ports.specs.Frames.{FramedAt, FramedIn, IsDurable, IsSettledIn, ReadsOutside, SameBut, TornFrom}
 use Rattle.ol_ports.specs.Stops.{Stops}
 use Rattle.ol_ports.proofs.DiskLaws.{rest-seen, within-behind, within-front}
 use Rattle.ol_ports.proofs.DiskSteps.{sync_shut, write_rest, write_seen}
-use Rattle.ol_ports.proofs.FrameLaws.{framed_wider}
+use Rattle.ol_ports.proofs.FrameLaws.{framed_wider, outside_durable, outside_write}
 use Rattle.ol_ports.proofs.StopLaws.{stops_both, stops_weaker, stops_write}
 use Rattle.ol_log_places.specs.Places.{Closed, IsPlaced, Open, Place, Shows, in_log, places}
 use Rattle.ol_log_places.specs.Writes.{GatesAre, IsClosing, IsGate, IsPageOf, IsShutFile, MayBeClosed, MayHavePage, is_in_file, with_page, without_file}
 use Rattle.ol_log_places.proofs.PlaceLaws.{closed_gate, gate_closed, in_the_log, other_place, place_same, written}
-
-pub on_ok : {T E : Type 0} {P Q : Type 0} (result : Result T E) → (P → Q) → OnOk result P → OnOk result Q
-on_ok (Ok x) f p = f p
-on_ok (Err e) f p = tt
 
 pub on_ok_if : {T E : Type 0} {A : Type 0} (r : Result T E) → (is_ok r ≡ true → A) → OnOk r A
 on_ok_if (Ok x) f = f refl
@@ -210,6 +207,9 @@ module _ (c : Config) (k : ℕ) (within : k < log_pages c) where
   pub torn_framed : (old new : Past) (at n : ℕ) → Stops old new (TornFrom old (log_area c).chunk ((log_area c).first + k) at n) → Stops old new (FramedIn old (in_log c))
   torn_framed old new at n s = stops_weaker _ _ _ _ (λ d t. framed_torn old c k at n d within t) s
 
+  pub durable_outside : (old new : Past) (at : ℕ) (bytes : List ℕ) → IsDurable old new (log_area c).chunk ((log_area c).first + k) at bytes → ReadsOutside old new (in_log c)
+  durable_outside old new at bytes durable = outside_durable old new (in_log c) (log_area c).chunk ((log_area c).first + k) at bytes durable (in_the_log c k at (length bytes) within)
+
   module _ (r : ℕ → Place) (shut : r k ≡ Closed) (page : List ℕ) (is : IsPageOf c k page) (old mid : Past) (placed : IsPlaced old c r) where
     -- the body alone was written
     pub body_stops : (n : ℕ) → Stops old mid (TornFrom old (log_area c).chunk ((log_area c).first + k) 1 n) → Stops old mid (MayHavePage c r k (page_in page))
@@ -227,7 +227,7 @@ module _ (c : Config) (k : ℕ) (within : k < log_pages c) where
       gate_stops new second = stops_both _ _ _ _ (body_stops (length body) first) (stops_weaker _ _ _ _ (λ d t. opening c k within r shut mid page is placed_mid stands_mid d t) second)
 
       pub gate_open : {E : Type 0} (new : Past) (result : Result Unit E) → Stops mid new (TornFrom mid (log_area c).chunk ((log_area c).first + k) 0 1) → OnOk result (IsDurable mid new (log_area c).chunk ((log_area c).first + k) 0 (1 ∷ [])) → OnOk result (IsPlaced new c (with_page r k (page_in page)))
-      gate_open new result second done = on_ok result (λ gate. let p : IsPlaced new c (with_page r k (page_in page)) = record { each = λ d rest. opened c k within r shut mid page is placed_mid stands_mid d (second.behind d rest) (settled_gate d rest gate) } in p) done
+      gate_open new result second done = on_ok_weaker result (λ gate. let p : IsPlaced new c (with_page r k (page_in page)) = record { each = λ d rest. opened c k within r shut mid page is placed_mid stands_mid d (second.behind d rest) (settled_gate d rest gate) } in p) done
         where
           settled_gate : (d : Bytes) → Rest new d → IsDurable mid new (log_area c).chunk ((log_area c).first + k) 0 (1 ∷ []) → d (log_area c).chunk ((log_area c).first + k) 0 ≡ 1
           settled_gate d rest gate = gate.settled d rest (log_area c).chunk ((log_area c).first + k) 0 (let e : ((log_area c).chunk == (log_area c).chunk) ≡ true = grind (arith, nat_tests) in e) ∙ gate.written 0 (omega arith)
@@ -239,6 +239,9 @@ module _ (c : Config) (k : ℕ) (within : k < log_pages c) where
 
     pub close_framed : Stops past new (FramedIn past (in_log c))
     close_framed = torn_framed past new 0 1 (stops_write _ _ _ _ _ _ _ wrote)
+
+    pub close_outside : OnOk result (ReadsOutside past new (in_log c))
+    close_outside = on_ok_if result (λ good. outside_write past new (in_log c) (log_area c).chunk ((log_area c).first + k) 0 (0 ∷ []) result wrote good (in_the_log c k 0 1 within))
 
     module _ (r : ℕ → Place) (file : ℕ) (closing : IsClosing past c r file k) (in_it : is_in_file c file k ≡ true) (is_open : r k ≢ Closed) where
       pub close_stops : Stops past new (MayBeClosed c r file)

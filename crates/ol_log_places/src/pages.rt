@@ -6,7 +6,7 @@ ghost use Rattle.ol_record.specs.LogPages.{page_in};
 ghost use Rattle.ol_chunks.specs.Places.{log_area};
 ghost use Rattle.ol_ports.specs.Causes.{HasChunkCause};
 ghost use Rattle.ol_ports.specs.Disk.{Syncs, seen};
-ghost use Rattle.ol_ports.specs.Frames.{FramedIn, IsDurable, TornFrom};
+ghost use Rattle.ol_ports.specs.Frames.{FramedIn, IsDurable, ReadsOutside, TornFrom};
 ghost use Rattle.ol_ports.specs.Stops.{Stops};
 ghost use Rattle.ol_log_places.specs.Places.{Closed, HasLog, IsPlaced, Place, Shows, in_log};
 ghost use Rattle.ol_log_places.specs.Writes.{GatesAre, IsClosing, IsGate, IsPageOf, IsShutFile, MayBeClosed, MayHavePage, is_in_file, with_page, without_file};
@@ -37,6 +37,7 @@ pub fn write_log_page<D: Disk>(
     ensures stops { D.tells → (r : ℕ → Place) → IsPlaced (D.past disk.old) table.now r → r place ≡ Closed → IsPageOf table.now place page.now → Stops (D.past disk.old) (D.past disk.new) (MayHavePage table.now r place (page_in page.now)) }
     ensures ok { D.tells → (r : ℕ → Place) → IsPlaced (D.past disk.old) table.now r → r place ≡ Closed → IsPageOf table.now place page.now → OnOk result (IsPlaced (D.past disk.new) table.now (with_page r place (page_in page.now))) }
     ensures frame { D.tells → Stops (D.past disk.old) (D.past disk.new) (FramedIn (D.past disk.old) (in_log table.now)) }
+    ensures reads { D.tells → OnOk result (ReadsOutside (D.past disk.old) (D.past disk.new) (in_log table.now)) }
     ensures sizes { D.sizes disk.new ≡ D.sizes disk.old }
     ensures cause { HasChunkCause (log_area table.now).chunk (D.fault_counts disk.old) (D.fault_counts disk.new) result }
 {
@@ -86,6 +87,7 @@ pub fn close_log_file<D: Disk>(
     ensures ok { D.tells → (r : ℕ → Place) → IsPlaced (D.past disk.old) table.now r → GatesAre gates.now r → OnOk result (IsPlaced (D.past disk.new) table.now (without_file table.now file r)) }
     ensures idle { IsShutFile table.now file gates.now → (disk.new ≡ disk.old) × (result ≡ Ok tt) }
     ensures frame { D.tells → Stops (D.past disk.old) (D.past disk.new) (FramedIn (D.past disk.old) (in_log table.now)) }
+    ensures reads { D.tells → OnOk result (ReadsOutside (D.past disk.old) (D.past disk.new) (in_log table.now)) }
     ensures sizes { D.sizes disk.new ≡ D.sizes disk.old }
     ensures cause { HasChunkCause (log_area table.now).chunk (D.fault_counts disk.old) (D.fault_counts disk.new) result }
 {
@@ -99,7 +101,7 @@ pub fn close_log_file<D: Disk>(
 }
 
 /// The first place of a file.
-fn first_place(table: &ChunkTable, file: u32) -> u32
+fn first_place_of_file(table: &ChunkTable, file: u32) -> u32
     requires { file < table.now.log_files }
     ensures value { result ≡ file * table.now.log_file_pages }
     ensures inside { result + table.now.log_file_pages ≤ log_pages table.now }
@@ -114,7 +116,7 @@ fn has_open(table: &ChunkTable, file: u32, gates: &[bool]) -> bool
     requires gates { length gates.now ≡ log_pages table.now }
     ensures { MatchBool result (IsShutFile table.now file gates.now → ⊥) (IsShutFile table.now file gates.now) }
 {
-    let start = first_place(table, file);
+    let start = first_place_of_file(table, file);
     for place in start..start + table.logs().pages {
         if gates[place as usize] {
             return true;
@@ -136,10 +138,11 @@ fn close_gates<D: Disk>(
     ensures stops { D.tells → (r : ℕ → Place) → IsPlaced (D.past disk.old) table.now r → GatesAre gates.now r → Stops (D.past disk.old) (D.past disk.new) (MayBeClosed table.now r file) }
     ensures ok { D.tells → (r : ℕ → Place) → IsPlaced (D.past disk.old) table.now r → GatesAre gates.now r → OnOk result (Shows table.now (seen (D.past disk.new)) (without_file table.now file r)) }
     ensures frame { D.tells → Stops (D.past disk.old) (D.past disk.new) (FramedIn (D.past disk.old) (in_log table.now)) }
+    ensures reads { D.tells → OnOk result (ReadsOutside (D.past disk.old) (D.past disk.new) (in_log table.now)) }
     ensures sizes { D.sizes disk.new ≡ D.sizes disk.old }
     ensures cause { HasChunkCause (log_area table.now).chunk (D.fault_counts disk.old) (D.fault_counts disk.new) result }
 {
-    let start = first_place(table, file);
+    let start = first_place_of_file(table, file);
     for place in start..start + table.logs().pages {
         match close_gate(disk, table, place, gates[place as usize]) {
             Ok(()) => {}
@@ -161,6 +164,7 @@ fn close_gate<D: Disk>(
     ensures stops { D.tells → (r : ℕ → Place) (file : ℕ) → IsClosing (D.past disk.old) table.now r file place → is_in_file table.now file place ≡ true → IsGate is_open (r place) → Stops (D.past disk.old) (D.past disk.new) (MayBeClosed table.now r file) }
     ensures ok { D.tells → (r : ℕ → Place) (file : ℕ) → IsClosing (D.past disk.old) table.now r file place → is_in_file table.now file place ≡ true → IsGate is_open (r place) → OnOk result (IsClosing (D.past disk.new) table.now r file (place + 1)) }
     ensures frame { D.tells → Stops (D.past disk.old) (D.past disk.new) (FramedIn (D.past disk.old) (in_log table.now)) }
+    ensures reads { D.tells → OnOk result (ReadsOutside (D.past disk.old) (D.past disk.new) (in_log table.now)) }
     ensures sizes { D.sizes disk.new ≡ D.sizes disk.old }
     ensures cause { HasChunkCause (log_area table.now).chunk (D.fault_counts disk.old) (D.fault_counts disk.new) result }
 {

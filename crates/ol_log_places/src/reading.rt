@@ -256,7 +256,7 @@ fn seen_open(table: &ChunkTable, place: u32, head: LogHead) -> Seen
     ensures low { 1 ≤ head.count → head.first + head.count ≤ 2 ^ 62 → 1 ≤ head.first → head.uniq ≤ 2 ^ 62 → IsSeenLow table.now result }
 {
     let logs = table.logs();
-    if !is_of(table, place, head) {
+    if !is_head_of_place(table, place, head) {
         return Seen::Bad;
     }
     Seen::Open(Stood {
@@ -268,7 +268,7 @@ fn seen_open(table: &ChunkTable, place: u32, head: LogHead) -> Seen
 
 /// Whether a page of this head is one of the place, by its index and its unique number.
 #[tactic(auto, unfolding(crate::specs::Places::is_of_place))]
-fn is_of(table: &ChunkTable, place: u32, head: LogHead) -> bool
+fn is_head_of_place(table: &ChunkTable, place: u32, head: LogHead) -> bool
     requires place { place < log_pages table.now }
     requires uniq { 1 ≤ head.uniq }
     ensures place { (p : LogPage) → head ≡ head_of p → result ≡ is_of_place table.now place p }

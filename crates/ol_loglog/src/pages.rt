@@ -8,7 +8,7 @@ ghost use Rattle.ol_values.specs.Spelling.{KeepsRules};
 ghost use Rattle.ol_rules.specs.Ring.{file_of, flushed, logged, room, written};
 ghost use Rattle.ol_chunks.specs.Places.{log_area};
 ghost use Rattle.ol_ports.specs.Causes.{HasChunkCause};
-ghost use Rattle.ol_ports.specs.Frames.{FramedIn};
+ghost use Rattle.ol_ports.specs.Frames.{FramedIn, ReadsOutside};
 ghost use Rattle.ol_ports.specs.Stops.{Stops};
 ghost use Rattle.ol_log_places.specs.Places.{HasLog, IsPlaced, Place, in_log, place_number};
 ghost use Rattle.ol_log_places.specs.Runs.{HoldsLog};
@@ -34,7 +34,7 @@ fn file_number(table: &ChunkTable, uniq: u64) -> u32
 }
 
 /// The place of a page.
-fn place_of(table: &ChunkTable, page: NextPage) -> u32
+fn place_of_page(table: &ChunkTable, page: NextPage) -> u32
     requires { page.index < table.now.log_file_pages }
     ensures value { result ≡ place_number table.now page.uniq page.index }
     ensures limit { result < log_pages table.now }
@@ -43,7 +43,7 @@ fn place_of(table: &ChunkTable, page: NextPage) -> u32
 }
 
 /// Notes that all gates of a file are closed.
-fn shut(table: &ChunkTable, file: u32, gates: &mut Vec<bool>)
+fn note_shut(table: &ChunkTable, file: u32, gates: &mut Vec<bool>)
     requires file { file < table.now.log_files }
     requires gates { length gates.old.items ≡ log_pages table.now }
     ensures count { length gates.new.items ≡ length gates.old.items }
@@ -72,12 +72,13 @@ fn close_file<D: Disk>(
     ensures placed { D.tells → (r : ℕ → Place) → IsPlaced (D.past disk.old) table.now r → GatesAre gates.old.items r → OnOk result (IsPlaced (D.past disk.new) table.now (without_file table.now file r)) }
     ensures gates { (r : ℕ → Place) → GatesAre gates.old.items r → OnOk result (GatesAre gates.new.items (without_file table.now file r)) }
     ensures frame { D.tells → Stops (D.past disk.old) (D.past disk.new) (FramedIn (D.past disk.old) (in_log table.now)) }
+    ensures reads { D.tells → OnOk result (ReadsOutside (D.past disk.old) (D.past disk.new) (in_log table.now)) }
     ensures sizes { D.sizes disk.new ≡ D.sizes disk.old }
     ensures cause { HasChunkCause (log_area table.now).chunk (D.fault_counts disk.old) (D.fault_counts disk.new) result }
 {
     match close_log_file(disk, table, file, gates) {
         Ok(()) => {
-            shut(table, file, gates);
+            note_shut(table, file, gates);
             Ok(())
         }
         Err(failed) => Err(failed),
@@ -100,6 +101,7 @@ fn enter_file<D: Disk>(
     ensures ok { D.tells → (r : ℕ → Place) (floor : ℕ) (j : ℕ → RecordValue) → IsReady (D.past disk.old) (ring_value table.now state.now gates.old.items) r floor j → IsNextFree (ring_value table.now state.now gates.old.items) r floor
         → OnOk result ((s : ℕ → Place) × IsReady (D.past disk.new) (ring_value table.now state.now gates.new.items) s floor j × IsNextShut table.now state.now s) }
     ensures frame { D.tells → Stops (D.past disk.old) (D.past disk.new) (FramedIn (D.past disk.old) (in_log table.now)) }
+    ensures reads { D.tells → OnOk result (ReadsOutside (D.past disk.old) (D.past disk.new) (in_log table.now)) }
     ensures sizes { D.sizes disk.new ≡ D.sizes disk.old }
     ensures cause { HasChunkCause (log_area table.now).chunk (D.fault_counts disk.old) (D.fault_counts disk.new) result }
 {
@@ -112,7 +114,7 @@ fn enter_file<D: Disk>(
 }
 
 /// Writes the buffered page to its place, which is closed, and notes that its gate is open.
-fn put_page<D: Disk>(
+fn write_buffered_page<D: Disk>(
     disk: &mut D,
     table: &ChunkTable,
     state: &mut LogState,
@@ -136,10 +138,11 @@ fn put_page<D: Disk>(
     ensures ok { D.tells → (r : ℕ → Place) (floor : ℕ) (j : ℕ → RecordValue) → IsReady (D.past disk.old) (ring_value table.now state.old gates.old.items) r floor j → IsNextShut table.now state.old r
         → OnOk result ((s : ℕ → Place) × IsReady (D.past disk.new) (ring_value table.now state.new gates.new.items) s floor j) }
     ensures frame { D.tells → Stops (D.past disk.old) (D.past disk.new) (FramedIn (D.past disk.old) (in_log table.now)) }
+    ensures reads { D.tells → OnOk result (ReadsOutside (D.past disk.old) (D.past disk.new) (in_log table.now)) }
     ensures sizes { D.sizes disk.new ≡ D.sizes disk.old }
     ensures cause { HasChunkCause (log_area table.now).chunk (D.fault_counts disk.old) (D.fault_counts disk.new) result }
 {
-    let place = place_of(table, state.next_page());
+    let place = place_of_page(table, state.next_page());
     match write_log_page(disk, table, place, state.bytes()) {
         Ok(()) => {
             gates[place as usize] = true;
@@ -174,6 +177,7 @@ pub(crate) fn flush_page<D: Disk>(
     ensures ok { D.tells → (r : ℕ → Place) (floor : ℕ) (j : ℕ → RecordValue) → IsReady (D.past disk.old) (ring_value table.now state.old gates.old.items) r floor j → IsNextFree (ring_value table.now state.old gates.old.items) r floor
         → OnOk result ((s : ℕ → Place) × IsReady (D.past disk.new) (ring_value table.now state.new gates.new.items) s floor j) }
     ensures frame { D.tells → Stops (D.past disk.old) (D.past disk.new) (FramedIn (D.past disk.old) (in_log table.now)) }
+    ensures reads { D.tells → OnOk result (ReadsOutside (D.past disk.old) (D.past disk.new) (in_log table.now)) }
     ensures sizes { D.sizes disk.new ≡ D.sizes disk.old }
     ensures cause { HasChunkCause (log_area table.now).chunk (D.fault_counts disk.old) (D.fault_counts disk.new) result }
 {
@@ -181,7 +185,7 @@ pub(crate) fn flush_page<D: Disk>(
         return Ok(());
     }
     match enter_file(disk, table, state, gates) {
-        Ok(()) => put_page(disk, table, state, gates),
+        Ok(()) => write_buffered_page(disk, table, state, gates),
         Err(failed) => Err(failed),
     }
 }
@@ -197,7 +201,7 @@ fn length_of(rec: &Record) -> usize
 }
 
 /// Writes the buffered page, where a record has no room behind its records.
-fn make_room<D: Disk>(
+fn flush_full_page<D: Disk>(
     disk: &mut D,
     table: &ChunkTable,
     state: &mut LogState,
@@ -224,6 +228,7 @@ fn make_room<D: Disk>(
     ensures ok { D.tells → (r : ℕ → Place) (floor : ℕ) (j : ℕ → RecordValue) → IsReady (D.past disk.old) (ring_value table.now state.old gates.old.items) r floor j → IsNextFree (ring_value table.now state.old gates.old.items) r floor
         → OnOk result ((s : ℕ → Place) × IsReady (D.past disk.new) (ring_value table.now state.new gates.new.items) s floor j) }
     ensures frame { D.tells → Stops (D.past disk.old) (D.past disk.new) (FramedIn (D.past disk.old) (in_log table.now)) }
+    ensures reads { D.tells → OnOk result (ReadsOutside (D.past disk.old) (D.past disk.new) (in_log table.now)) }
     ensures sizes { D.sizes disk.new ≡ D.sizes disk.old }
     ensures cause { HasChunkCause (log_area table.now).chunk (D.fault_counts disk.old) (D.fault_counts disk.new) result }
 {
@@ -260,10 +265,11 @@ pub(crate) fn append_record<D: Disk>(
     ensures ok { D.tells → (r : ℕ → Place) (floor : ℕ) (j : ℕ → RecordValue) → IsReady (D.past disk.old) (ring_value table.now state.old gates.old.items) r floor j → IsNextFree (ring_value table.now state.old gates.old.items) r floor
         → j state.old.next ≡ rec.now → OnOk result ((s : ℕ → Place) × IsReady (D.past disk.new) (ring_value table.now state.new gates.new.items) s floor j) }
     ensures frame { D.tells → Stops (D.past disk.old) (D.past disk.new) (FramedIn (D.past disk.old) (in_log table.now)) }
+    ensures reads { D.tells → OnOk result (ReadsOutside (D.past disk.old) (D.past disk.new) (in_log table.now)) }
     ensures sizes { D.sizes disk.new ≡ D.sizes disk.old }
     ensures cause { HasChunkCause (log_area table.now).chunk (D.fault_counts disk.old) (D.fault_counts disk.new) result }
 {
-    match make_room(disk, table, state, gates, rec) {
+    match flush_full_page(disk, table, state, gates, rec) {
         Ok(()) => {
             state.push(rec);
             Ok(())

@@ -12,7 +12,7 @@ ghost use Rattle.ol_rules.specs.Ring.{blocker, file_of, flushed, free, free_afte
 ghost use Rattle.ol_chunks.specs.Places.{log_area};
 ghost use Rattle.ol_ports.specs.Causes.{HasChunkCause};
 ghost use Rattle.ol_ports.specs.Disk.{Past};
-ghost use Rattle.ol_ports.specs.Frames.{FramedIn};
+ghost use Rattle.ol_ports.specs.Frames.{FramedIn, ReadsOutside};
 ghost use Rattle.ol_ports.specs.Stops.{Stops};
 ghost use Rattle.ol_log_places.specs.Places.{HasLog, Place, in_log};
 ghost use Rattle.ol_log_places.specs.Runs.{HoldsLog};
@@ -224,6 +224,7 @@ impl LogRing {
         ensures ok { D.tells → (r : ℕ → Place) (floor : ℕ) (j : ℕ → RecordValue) → IsReady (D.past disk.old) self.old r floor j → IsNextFree self.old r floor
             → j self.old.state.next ≡ rec.now → OnOk result ((s : ℕ → Place) × IsReady (D.past disk.new) self.new s floor j) }
         ensures frame { D.tells → Stops (D.past disk.old) (D.past disk.new) (FramedIn (D.past disk.old) (in_log self.old.config)) }
+        ensures reads { D.tells → OnOk result (ReadsOutside (D.past disk.old) (D.past disk.new) (in_log self.old.config)) }
         ensures sizes { D.sizes disk.new ≡ D.sizes disk.old }
         ensures cause { HasChunkCause (log_area self.old.config).chunk (D.fault_counts disk.old) (D.fault_counts disk.new) result }
     {
@@ -249,6 +250,7 @@ impl LogRing {
         ensures ok { D.tells → (r : ℕ → Place) (floor : ℕ) (j : ℕ → RecordValue) → IsReady (D.past disk.old) self.old r floor j → IsNextFree self.old r floor
             → OnOk result ((s : ℕ → Place) × IsReady (D.past disk.new) self.new s floor j) }
         ensures frame { D.tells → Stops (D.past disk.old) (D.past disk.new) (FramedIn (D.past disk.old) (in_log self.old.config)) }
+        ensures reads { D.tells → OnOk result (ReadsOutside (D.past disk.old) (D.past disk.new) (in_log self.old.config)) }
         ensures sizes { D.sizes disk.new ≡ D.sizes disk.old }
         ensures cause { HasChunkCause (log_area self.old.config).chunk (D.fault_counts disk.old) (D.fault_counts disk.new) result }
     {

@@ -1,6 +1,6 @@
 use Rattle.std.proofs.Common.{◌≡◌, ap, arith, subst, sym, true, ℕ, ◌∙◌}
 use Rattle.ol_rules.specs.Ring.{file_of}
-use Rattle.ol_ports.proofs.FrameLaws.{framed_none}
+use Rattle.ol_ports.proofs.FrameLaws.{framed_none, outside_none}
 use Rattle.ol_ports.proofs.StopLaws.{stops_none, stops_weaker}
 use Rattle.ol_log_places.specs.Places.{Place}
 use Rattle.ol_log_places.specs.Writes.{IsFreeFile, is_in_file, without_file}
@@ -43,3 +43,6 @@ returns-else-page-clause-stops g c tells r floor j ready free = stops_none _ _ (
 
 pub returns-else-page-clause-frame : goal.returns-else-page-clause-frame
 returns-else-page-clause-frame g c tells = stops_none _ _ (λ d rest. framed_none _ _ d rest)
+
+pub returns-else-page-clause-reads : goal.returns-else-page-clause-reads
+returns-else-page-clause-reads g c tells = outside_none _ _

@@ -1,6 +1,7 @@
 use Rattle.std.proofs.Common.{OnOk, subst, ℕ, ◌≡◌}
+use Rattle.ol_ports.specs.Frames.{ReadsOutside}
 use Rattle.ol_ports.specs.Stops.{Stops}
-use Rattle.ol_log_places.specs.Places.{Place}
+use Rattle.ol_log_places.specs.Places.{Place, in_log}
 use Rattle.ol_log_places.specs.Runs.{HoldsLog}
 use Rattle.ol_loglog.specs.RingValue.{RingValue, first_unwritten, ring_value}
 use Rattle.ol_loglog.specs.Ready.{IsNextFree, IsReady}
@@ -16,3 +17,7 @@ pub returns-clause-stops : goal.returns-clause-stops
 returns-clause-stops g c tells r floor j ready free =
     subst (λ (v : RingValue). IsReady (g.D.Disk.past c.args.disk.now) v r floor j → IsNextFree v r floor → Stops (g.D.Disk.past c.args.disk.now) (g.D.Disk.past c.append_record.new.disk) (HoldsLog v.config j floor (first_unwritten v.state) v.state.next)) c.self.view_is
     (λ is next. c.append_record.ensures.stops tells r floor j is next) ready free
+
+pub returns-clause-reads : goal.returns-clause-reads
+returns-clause-reads g c tells =
+    subst (λ (v : RingValue). OnOk c.append_record.result (ReadsOutside (g.D.Disk.past c.args.disk.now) (g.D.Disk.past c.append_record.new.disk) (in_log v.config))) c.self.view_is (c.append_record.ensures.reads tells)

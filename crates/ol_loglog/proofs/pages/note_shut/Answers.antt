@@ -5,7 +5,7 @@ use Rattle.std.proofs.Math.Nat.{mul-le-mul_right}
 use Rattle.ol_chunks.specs.declared.table.Area.{Area}
 use Rattle.ol_log_places.specs.Writes.{is_in_file}
 use Rattle.ol_log_places.proofs.WriteLaws.{file_in, in_file}
-use Rattle.ol_loglog.proofs.pages.shut.Goals as goal
+use Rattle.ol_loglog.proofs.pages.note_shut.Goals as goal
 
 pub loop-place-preserved : goal.loop-place-preserved
 loop-place-preserved c =

@@ -1,6 +1,6 @@
 use Rattle.std.proofs.Common.{◌≡◌, ◌<◌, ◌≤◌, ◌*◌, ℕ, length, false, slice_index_or}
 use Rattle.ol_log_places.specs.Writes.{is_in_file}
-use Rattle.ol_loglog.proofs.pages.shut.Given as goal
+use Rattle.ol_loglog.proofs.pages.note_shut.Given as goal
 
 abbrev pub invariant-loop-place : goal.invariant-loop-place
 invariant-loop-place l = record {
