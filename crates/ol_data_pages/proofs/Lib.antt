@@ -1,0 +1,4 @@
+pub mod OverlayLaws
+pub mod PlaceLaws
+pub mod SyncLaws
+pub mod WriteLaws

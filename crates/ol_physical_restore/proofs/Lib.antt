@@ -1,0 +1,4 @@
+mod EntryLaws
+mod LoopSteps
+mod PageSteps
+mod RestoreLaws

@@ -1,0 +1,6 @@
+pub mod ListLaws
+pub mod ItemLaws
+pub mod PlaceLaws
+pub mod CountLaws
+pub mod StoreLaws
+pub mod MapLaws

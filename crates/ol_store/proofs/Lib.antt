@@ -1,0 +1,12 @@
+mod CutLaws
+mod EntryLaws
+mod EntrySteps
+mod HoldLaws
+mod WriteLaws
+mod ApartLaws
+mod ChangeLaws
+mod CheckpointSteps
+mod LoadLaws
+mod LoopSteps
+mod RowSteps
+mod StoreLaws
