@@ -6,7 +6,8 @@ ghost use Rattle.ol_values.specs.Text.{text};
 ghost use Rattle.ol_model.specs.History.{played};
 ghost use Rattle.ol_model.specs.Listing.{list_text};
 ghost use Rattle.ol_model.specs.Machine.{row_in};
-ghost use Rattle.ol_worked.specs.Restores.{all_after, archived_again, archived_twice, archives_in, damaged_outside, end_or, last_journal, last_shelf, listed_after, log_file_lost, lost_history, machine_after, open_at_cut, plan_for, plan_or, restored_warm, row_behind_archive, salvaged_heads, spoilt, tapes_after, three_spaces, two_files_backed, two_log_pages, warm_machine, warm_shelf, whole_journal, without_log};
+ghost use Rattle.ol_worked.specs.Restores.{all_after, archived_again, archived_twice, archives_in, damaged_outside, end_or, last_journal, last_shelf, listed_after, log_file_lost, lost_history, machine_after, open_at_cut};
+ghost use Rattle.ol_worked.specs.Restores.{plan_for, plan_or, restored_warm, row_behind_archive, salvaged_heads, spoilt, tapes_after, three_spaces, two_files_backed, two_log_pages, warm_machine, warm_shelf, whole_journal, without_log};
 ghost use Rattle.ol_worked.specs.Small.{small};
 
 /// Up to where restores go, what is listed behind them, and what is refused: a log file that is missing where it is
