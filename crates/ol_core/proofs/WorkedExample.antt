@@ -106,7 +106,7 @@ end_of kind index = record {
   a = 3;
   b = 4;
   c = 0;
-  payload = HeadHeld (record { spaces = saved; text = config_text config });
+  payload = HeadHeld (record { spaces = saved; text = config_text config }) config;
 }
 
 abbrev pub middle : Block

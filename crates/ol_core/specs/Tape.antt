@@ -22,7 +22,7 @@ head_at f a = record { spaces = a.spaces; text = config_text f.config }
 
 -- the header or the trailer of an archive
 abbrev pub end_block : Fixed → ℕ → ℕ → Archive → Block
-end_block f kind index a = archive_end kind f.incarnation a.number index a.cut a.low a.level (head_at f a)
+end_block f kind index a = archive_end kind f.incarnation a.number index a.cut a.low a.level (head_at f a) f.config
 
 -- the blocks of its pages, of which the first has this index
 abbrev pub page_blocks : ℕ → ℕ → ℕ → List SavedPage → List Block

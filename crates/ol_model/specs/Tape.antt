@@ -19,7 +19,7 @@ abbrev pub head_at : Machine → Archive → ArchiveHead
 head_at m a = record { spaces = a.spaces; text = config_text (config_of m) }
 
 abbrev pub archive_end_at : Machine → ℕ → ℕ → Archive → Block
-archive_end_at m kind index a = archive_end kind m.lasting.incarnation a.number index a.cut a.low a.level (head_at m a)
+archive_end_at m kind index a = archive_end kind m.lasting.incarnation a.number index a.cut a.low a.level (head_at m a) (config_of m)
 
 -- the page of an archive with its image at the cut
 abbrev pub saved_at : Machine → Archive → ℕ → ℕ → SavedPage

@@ -37,7 +37,7 @@ archive_head_bytes h = length h.spaces ∷ flat_map saved_bytes h.spaces ++ (to_
 -- the used bytes of a payload
 abbrev pub payload_bytes : Payload → List ℕ
 payload_bytes Empty = []
-payload_bytes (HeadHeld head) = archive_head_bytes head
+payload_bytes (HeadHeld head _) = archive_head_bytes head
 payload_bytes (PageHeld page) = page_bytes page
 payload_bytes (LogHeld page) = log_page_bytes 1 page
 

@@ -1,2 +1,2 @@
 pub mod Slots
-mod Reading
+pub mod Reading

@@ -9,7 +9,7 @@ use Rattle.ol_rules.specs.Lasting.{Kept, Lasting, SpaceState, none_kept}
 use Rattle.ol_rules.specs.Plan.{Chain, Plan, kept_at, is_before, saved_by}
 use Rattle.ol_rules.specs.Ring.{LogRange, Ring, Use, first_position, last_position}
 use Rattle.ol_rules.specs.Saveset.{saveset}
-use Rattle.ol_rules.specs.Shelf.{Object, Placed, Shelf, archives_on, bad_blocks, counting_archives, end_of, head_of, logs_on, marks_on, objects, reach_of}
+use Rattle.ol_rules.specs.Shelf.{Object, Placed, Shelf, archives_on, bad_blocks, config_of, counting_archives, end_of, head_of, logs_on, marks_on, objects, reach_of}
 use Rattle.ol_rules.specs.Transactions.{low_at, rolled_back}
 
 -- ---- log objects
@@ -38,11 +38,11 @@ salvaged first records l r = flat_map (log_blocks first records l.incarnation) (
 -- ---- a shelf fits a journal
 
 -- the blocks of an archive with these pages
-abbrev pub archive_blocks_of : ℕ → ℕ → ℕ → ℕ → ℕ → ArchiveHead → List SavedPage → List Block
-archive_blocks_of incarnation number cut low level head pages =
-    archive_end header_kind incarnation number 0 cut low level head
+abbrev pub archive_blocks_of : ℕ → ℕ → ℕ → ℕ → ℕ → ArchiveHead → Config → List SavedPage → List Block
+archive_blocks_of incarnation number cut low level head config pages =
+    archive_end header_kind incarnation number 0 cut low level head config
     ∷ map (λ (p : ℕ × SavedPage). archive_page incarnation number p.0 p.1) (enumerate_from 1 pages)
-    ++ archive_end trailer_kind incarnation number (length pages + 1) cut low level head ∷ []
+    ++ archive_end trailer_kind incarnation number (length pages + 1) cut low level head config ∷ []
 
 -- whether a block of the span is one that does not belong there
 abbrev pub is_bad_in : Object → Placed → Bool
@@ -63,7 +63,7 @@ pub record FitsArchive (c : Config) (journal : List Record) (o : Object) : Type 
   pub low : o.head.b ≡ low_at (take o.head.a journal)
   pub text : (head_on o).text ≡ config_text c
   pub bases : list_all (λ (s : Saved). nat_le s.base o.head.a) (head_on o).spaces ≡ true
-  pub blocks : HoldsBlocks o o.span (archive_blocks_of o.head.incarnation o.head.number o.head.a o.head.b o.head.c (head_on o) (saveset c journal (head_on o).spaces o.head.a))
+  pub blocks : HoldsBlocks o o.span (archive_blocks_of o.head.incarnation o.head.number o.head.a o.head.b o.head.c (head_on o) (config_of o.head.payload) (saveset c journal (head_on o).spaces o.head.a))
 
 -- the records of a log page at positions up to the last that counts are the journal's
 abbrev pub HoldsPage : List Record → ℕ → Payload → Type 0

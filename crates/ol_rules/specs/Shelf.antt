@@ -1,8 +1,9 @@
 -- A shelf: for each drive its volumes of blocks, and the objects that stand on them.
 use Rattle.std.specs.List.{enumerate_from, list_all, range_with_len}
-use Rattle.std.specs.Prelude.{Bool, List, None, Option, Some, [], bytes_eq, drop, false, filter, filter_map, find, flat_map, fold, if◌then◌else◌, length, map, max, min, nat_le, nat_lt, position, take, true, ℕ, ◌&&◌, ◌++◌, ◌+◌, ◌-◌, ◌==◌, ◌^◌, ◌||◌, ◌∷◌}
+use Rattle.std.specs.Prelude.{Bool, List, None, Option, Some, [], bytes_eq, drop, false, filter, filter_map, find, flat_map, fold, if◌then◌else◌, length, map, max, min, nat_le, nat_lt, not, position, take, true, ℕ, ◌&&◌, ◌++◌, ◌+◌, ◌-◌, ◌==◌, ◌^◌, ◌||◌, ◌∷◌}
 use Rattle.ol_values.specs.Blocks.{Block, Empty, ArchiveHead, HeadHeld, LogHeld, PageHeld, Payload, archive_object, header_kind, log_object, mark_kind, mark_object, page_kind, records_kind, trailer_kind}
 use Rattle.ol_values.specs.Blocks.{Saved}
+use Rattle.ol_values.specs.Config.{Config, has_page, no_config}
 
 -- a block of a shelf at its place; none where the bytes are no block
 pub record Placed : Type 0 where
@@ -83,8 +84,13 @@ abbrev pub saved_in : ℕ → List Saved → Option Saved
 saved_in space saved = find (λ (s : Saved). s.space == space) saved
 
 abbrev pub head_of : Payload → ArchiveHead
-head_of (HeadHeld head) = head
+head_of (HeadHeld head _) = head
 head_of _ = record { spaces = []; text = [] }
+
+-- the configuration of an archive
+abbrev pub config_of : Payload → Config
+config_of (HeadHeld _ config) = config
+config_of _ = no_config
 
 abbrev pub same_saved : List Saved → List Saved → Bool
 same_saved [] [] = true
@@ -94,7 +100,7 @@ same_saved _ _ = false
 -- whether two payloads of header and trailer are one
 abbrev pub same_payload : Payload → Payload → Bool
 same_payload Empty Empty = true
-same_payload (HeadHeld g) (HeadHeld h) = same_saved g.spaces h.spaces && bytes_eq g.text h.text
+same_payload (HeadHeld g _) (HeadHeld h _) = same_saved g.spaces h.spaces && bytes_eq g.text h.text
 same_payload _ _ = false
 
 abbrev pub stamp_is : Payload → ℕ → Bool
@@ -104,11 +110,11 @@ stamp_is _ stamp = false
 abbrev pub is_after : Reached → ℕ → ℕ → Bool
 is_after r space page = nat_lt r.space space || ((r.space == space) && nat_le r.page page)
 
--- a page block stands in the order of places, with a stamp above the base of its space and at most the cut
+-- a page block stands in the order of places, of a page that the configuration has, with a stamp above the base of its space and at most the cut
 abbrev pub page_belongs : Reached → Block → Block → Option Saved → Bool
 page_belongs r head b None = false
 page_belongs r head b (Some s) =
-    is_after r b.a b.b && (nat_lt s.base b.c && (nat_le b.c head.a && stamp_is b.payload b.c))
+    is_after r b.a b.b && (has_page (config_of head.payload) b.a b.b && (nat_lt s.base b.c && (nat_le b.c head.a && stamp_is b.payload b.c)))
 
 -- a records block follows the one before it without a gap, and ends within the object
 abbrev pub log_belongs : Reached → Block → Block → Payload → Bool
@@ -122,13 +128,21 @@ inner_belongs r head b =
     if head.object == archive_object then (b.kind == page_kind) && page_belongs r head b (saved_in b.a (head_of head.payload).spaces)
     else (b.kind == records_kind) && log_belongs r head b b.payload
 
+-- header and trailer have the fields and the payload of the object's head
+abbrev pub end_belongs : ℕ → Block → Block → Bool
+end_belongs kind head b =
+    (b.kind == kind) && ((b.a == head.a) && ((b.b == head.b) && ((b.c == head.c) && same_payload b.payload head.payload)))
+
+-- a log object has come to its last position, where the block before belongs there
+abbrev pub has_all : Reached → Block → Bool
+has_all r head = not (head.object == log_object) || (not r.sure || (r.position == head.b + 1))
+
 -- whether a block of index i belongs there, in a span that has come so far
 abbrev pub belongs : Block → Reached → ℕ → Block → Bool
 belongs head r i b =
     (b.object == head.object) && ((b.incarnation == head.incarnation) && ((b.number == head.number) && ((b.index == i)
-    && (if (i == 0) || (i == head.index) then
-    (b.kind == (if i == head.index then head.kind else header_kind)) && ((b.a == head.a) && ((b.b == head.b) && ((b.c == head.c) && same_payload b.payload head.payload)))
-    else inner_belongs r head b))))
+    && (if i == 0 then end_belongs header_kind head b
+    else (if i == head.index then end_belongs trailer_kind head b && has_all r head else inner_belongs r head b)))))
 
 abbrev pub reached_by : Reached → Block → Reached
 reached_by r b =
@@ -141,9 +155,10 @@ reach_on head r p i None = record r { sure = false; bad = r.bad ++ p ∷ [] }
 reach_on head r p i (Some b) =
     if belongs head r i b then reached_by r b else record r { sure = false; bad = r.bad ++ p ∷ [] }
 
--- the blocks of a span that do not belong at their places
+-- the blocks of a span that do not belong at their places; of a mark there are none
 abbrev pub bad_blocks : Object → List Placed
 bad_blocks o =
+    if o.head.kind == mark_kind then [] else
     (fold (λ (r : Reached) (p : ℕ × Placed). reach_on o.head r p.1 p.0 p.1.item)
     (record { space = 0; page = 0; position = o.head.a; sure = true; bad = [] })
     (enumerate_from 0 o.span)).bad

@@ -16,7 +16,7 @@ use Rattle.ol_values.specs.Pages.{Page}
 use Rattle.ol_rules.specs.Shelf.{Shelf}
 use Rattle.ol_model.specs.ArchiveTurns.{end_at, end_unless, end_with, start_at, take_at}
 use Rattle.ol_model.specs.History.{Steps, Turned, state_after, turned}
-use Rattle.ol_model.specs.Machine.{Archive, Machine, archive_of, last_of, page_upto, with_archive}
+use Rattle.ol_model.specs.Machine.{Archive, Machine, archive_of, config_of, last_of, page_upto, with_archive}
 use Rattle.ol_model.specs.Tape.{archive_end_at, head_at, is_at_drive, put_by, put_if, saved_at, tape}
 use Rattle.ol_model.specs.Turns.{DeviceFault, faulted, given_by, number_of, turn, turn_of, turn_unless}
 use Rattle.ol_model.specs.Waiting.{left_of, pages_of}
@@ -103,8 +103,8 @@ blocks_same k m n a index (p ∷ rest) are keeps =
 
 end_same : (k : ℕ) (m n : Machine) (a : Archive) (index : ℕ) → KeepsArchive k a m n → archive_end_at n trailer_kind index a ≡ archive_end_at m trailer_kind index a
 end_same k m n a index keeps =
-    ap (λ (x : ℕ). archive_end trailer_kind x a.number index a.cut a.low a.level (head_at n a)) keeps.incarnation
-    ∙ ap (λ (c : Config). archive_end trailer_kind m.lasting.incarnation a.number index a.cut a.low a.level (record { spaces = a.spaces; text = config_text c })) keeps.config
+    ap (λ (x : ℕ). archive_end trailer_kind x a.number index a.cut a.low a.level (head_at n a) (config_of n)) keeps.incarnation
+    ∙ ap (λ (c : Config). archive_end trailer_kind m.lasting.incarnation a.number index a.cut a.low a.level (record { spaces = a.spaces; text = config_text c }) c) keeps.config
 
 -- the blocks that are due from a state on
 abbrev due : Machine → Archive → ℕ → List (ℕ × ℕ) → List Block

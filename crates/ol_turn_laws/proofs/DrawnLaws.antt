@@ -93,7 +93,7 @@ ShortImage p = HoldsShort p.image
 payload_saved : (space page : ℕ) (p : Payload) → HasShortPayload p → All ShortImage (saved_payload space page p)
 payload_saved space page (PageHeld image) h = All-cons ShortImage (record { space = space; page = page; image = image }) [] h (All-nil ShortImage)
 payload_saved space page (LogHeld records) h = All-nil ShortImage
-payload_saved space page (HeadHeld head) h = All-nil ShortImage
+payload_saved space page (HeadHeld head config) h = All-nil ShortImage
 payload_saved space page Empty h = All-nil ShortImage
 
 item_saved : (i : Option Block) → HasShortItem i → All ShortImage (saved_item i)
@@ -173,7 +173,7 @@ payload_record : (position : ℕ) (p : Payload) → HasShortPayload p → IfAny 
 payload_record position (PageHeld image) h = tt
 payload_record position (LogHeld page) h =
     elim (nat_le page.first position) as (λ b. IfAny LeavesShort (if b then slice_get page.records (position - page.first) else None)) [ true ↦ got_any LeavesShort page.records (position - page.first) h | false ↦ tt ]
-payload_record position (HeadHeld head) h = tt
+payload_record position (HeadHeld head config) h = tt
 payload_record position Empty h = tt
 
 item_record : (position : ℕ) (i : Option Block) → HasShortItem i → IfAny LeavesShort (record_in_item position i)

@@ -1,5 +1,6 @@
 -- Tape blocks as values: a head, and what the payload holds.
 use Rattle.std.specs.Prelude.{List, length, ℕ}
+use Rattle.ol_values.specs.Config.{Config}
 use Rattle.ol_values.specs.LogPages.{LogPage}
 use Rattle.ol_values.specs.Pages.{Page}
 
@@ -22,10 +23,10 @@ pub record ArchiveHead : Type 0 where
   pub spaces : List Saved
   pub text : List ℕ
 
--- nothing, an archive head, a data page or a log page
+-- nothing, an archive head with the configuration of its text, a data page or a log page
 pub data Payload : Type 0 where
   Empty : Payload
-  HeadHeld : (head : ArchiveHead) → Payload
+  HeadHeld : (head : ArchiveHead) → (config : Config) → Payload
   PageHeld : (page : Page) → Payload
   LogHeld : (page : LogPage) → Payload
 
@@ -67,9 +68,9 @@ log_object = 2
 abbrev pub mark_object : ℕ
 mark_object = 3
 
--- the header or the trailer of an archive: its cut, its low and its level
-abbrev pub archive_end : ℕ → ℕ → ℕ → ℕ → ℕ → ℕ → ℕ → ArchiveHead → Block
-archive_end kind incarnation number index cut low level head = record {
+-- the header or the trailer of an archive: its cut, its low and its level, its head, and the configuration of that
+abbrev pub archive_end : ℕ → ℕ → ℕ → ℕ → ℕ → ℕ → ℕ → ArchiveHead → Config → Block
+archive_end kind incarnation number index cut low level head config = record {
   kind = kind;
   object = archive_object;
   incarnation = incarnation;
@@ -78,7 +79,7 @@ archive_end kind incarnation number index cut low level head = record {
   a = cut;
   b = low;
   c = level;
-  payload = HeadHeld head;
+  payload = HeadHeld head config;
 }
 
 -- the block of a page: its space, its number and its stamp

@@ -20,6 +20,10 @@ pub record Config : Type 0 where
   -- how many captured images are held at most
   pub image_limit : ℕ
 
+-- a configuration without a space
+abbrev pub no_config : Config
+no_config = record { spaces = []; physical_space = 0; physical_entries = 0; log_space = 0; log_files = 0; log_file_pages = 0; image_limit = 0 }
+
 abbrev pub unnamed : SpaceConfig
 unnamed = record { name = []; chunks = [] }
 

@@ -1,5 +1,5 @@
 -- What one volume more and one block more do to the stream of a drive and to its capacity.
-use Rattle.std.proofs.Common.{◌≡◌, ℕ, List, [], ◌∷◌, ◌++◌, Option, Some, None, Bool, refl, inl, inr, ⊎_elim, sym, ◌∙◌, ap, arith, append_assoc}
+use Rattle.std.proofs.Common.{◌≡◌, ◌<◌, ◌≤◌, ℕ, List, [], ◌∷◌, ◌++◌, Option, Some, None, Bool, refl, inl, inr, ⊎_elim, sym, ◌∙◌, ap, arith, append_assoc}
 use Rattle.std.proofs.lemmas.List.{append-nil}
 use Rattle.std.specs.Option.{option_map}
 use Rattle.ol_ports.specs.Drive.{Tape, blocks_in_order, stream_of, capacity, append_last, with_block, Writes}
@@ -16,6 +16,8 @@ pub record IsUnderWay (old : Written) (tape : Tape) (count drive : ℕ) (mounted
   pub faults : count ≡ old.faults
   pub number : drive ≡ old.number
   pub ready : IsMountedWhereTold tape mounted
+  pub on : old.tape.mounted ≤ tape.mounted
+  pub later : old.tape.room ≡ 0 → 0 < tape.room → old.tape.mounted < tape.mounted
 
 -- a block more on the last volume stands at the end of the stream
 stream-append_last : (volumes : List (List (List ℕ))) (block : List ℕ) → blocks_in_order (append_last volumes block) ≡ blocks_in_order volumes ++ block ∷ []
@@ -35,6 +37,7 @@ stream-with_block block t = known t.volumes
 pub puts_block : (old : Written) (block : List ℕ) (before after : Tape) (count now drive : ℕ) (mounted : Bool) → IsUnderWay old before count drive mounted
     → Writes before block Done after → now ≡ count → Puts old block (record { tape = after; faults = now; number = drive })
 puts_block old block before after count now drive mounted way wrote calm = record {
+  fresh = λ full. rw wrote.1 (way.later full wrote.0);
   stream = ap stream_of wrote.1 ∙ stream-with_block block before ∙ ap (λ s. and_block s block) way.stream;
   synced = ap (λ t. t.synced) wrote.1 ∙ way.synced;
   room = rw wrote.1 (omega (arith, way.room, wrote.0));

@@ -1,5 +1,5 @@
 -- What a writer of a tape did to its drive.
-use Rattle.std.specs.Prelude.{ℕ, ◌+◌, ◌≡◌, ◌⊎◌, List, [], ◌∷◌, ◌++◌, Option}
+use Rattle.std.specs.Prelude.{ℕ, ◌+◌, ◌<◌, ◌≡◌, ◌⊎◌, List, [], ◌∷◌, ◌++◌, Option}
 use Rattle.std.specs.Option.{option_map}
 use Rattle.ol_ports.specs.Causes.{Rose}
 use Rattle.ol_ports.specs.Drive.{Tape, capacity, without_room, stream_of}
@@ -16,8 +16,9 @@ pub record Written : Type 0 where
 abbrev pub and_block : Option (List (List ℕ)) → List ℕ → Option (List (List ℕ))
 and_block stream block = option_map (λ blocks. blocks ++ block ∷ []) stream
 
--- a block was put: it stands at the end of the stream, and the drive takes one less
+-- a block was put: it stands at the end of the stream, on a new volume where the mounted one takes no more, and the drive takes one less
 pub record Puts (old : Written) (block : List ℕ) (new : Written) : Type 0 where
+  pub fresh : old.tape.room ≡ 0 → old.tape.mounted < new.tape.mounted
   pub stream : stream_of new.tape ≡ and_block (stream_of old.tape) block
   pub synced : new.tape.synced ≡ old.tape.synced
   pub room : capacity new.tape + 1 ≡ capacity old.tape

@@ -53,7 +53,7 @@ pages_on c lines drive = flat_map (λ (b : Block). page_told b.payload) (blocks_
 
 -- the spaces in an archive head
 abbrev pub spaces_told : Payload → List (List Saved)
-spaces_told (HeadHeld head) = head.spaces ∷ []
+spaces_told (HeadHeld head _) = head.spaces ∷ []
 spaces_told _ = []
 
 -- the same of all headers and trailers that a play puts on a drive
