@@ -8,9 +8,9 @@ use Rattle.ol_values.specs.LogPages.{LogPage}
 use Rattle.ol_rules.specs.Ring.{file_of}
 use Rattle.ol_ports.specs.Disk.{Bytes}
 use Rattle.ol_log_places.specs.Places.{Bad, Closed, Open, Place, Shows, place_number, places}
-use Rattle.ol_log_places.specs.Runs.{HoldsLog, IsLogged, StandAtPlaces, Stands, end_of}
+use Rattle.ol_log_places.specs.Runs.{HoldsLog, IsLogged, IsNear, StandAtPlaces, Stands, end_of}
 use Rattle.ol_log_places.specs.Writes.{GatesAre, IsFreeFile, IsGate, IsNext, IsShutFile, IsThinned, MayBeClosed, MayHavePage, is_in_file, with_page, without_file}
-use Rattle.ol_log_places.proofs.Journals.{put_logged, thinned_logged}
+use Rattle.ol_log_places.proofs.Journals.{put_logged, put_near, thinned_logged, thinned_near}
 use Rattle.ol_log_places.proofs.PlaceLaws.{open_place}
 use Rattle.ol_log_places.proofs.WriteLaws.{file_in, in_file, with_other, with_same, without_in, without_out}
 
@@ -51,7 +51,7 @@ closed_behind c r j need upto p log stand s end place below in_it behind = by_pl
         let file : file_of c q.uniq ≡ file_of c p.uniq = there_file c place (file_of c p.uniq) q its.0 its.1 in_it in
         let uniq = log.one_use q p t s file in
         let start = ap (λ (f : ℕ). f * c.log_file_pages) file in
-        let order = log.order p q s t (sym uniq) (omega (arith, its.1, behind, start)) in
+        let order = log.order p q s t (inr (sym uniq, omega (arith, its.1, behind, start))) in
         let some = log.orderly.some place q below is in
         let last = log.covers.last q t in
         absurd (omega (arith, order, some, last, end))
@@ -61,20 +61,37 @@ closed_behind c r j need upto p log stand s end place below in_it behind = by_pl
 pub shown_logged : (c : Config) (r : ℕ → Place) (j : ℕ → Record) (need upto : ℕ) (d : Bytes) → IsLogged c r j need upto → Shows c d r → IsLogged c (places c d) j need upto
 shown_logged c r j need upto d log shows = thinned_logged c need r (places c d) (λ k lt. inl (shows k lt)) j upto log
 
-pub holds_none : (c : Config) (r : ℕ → Place) (j : ℕ → Record) (need upto : ℕ) (d : Bytes) → IsLogged c r j need upto → Shows c d r → HoldsLog c j need upto upto d
-holds_none c r j need upto d log shows = record { upto = upto; from = omega arith; to = omega arith; logged = shown_logged c r j need upto d log shows }
+shown_near : (c : Config) (r : ℕ → Place) (uniq upto : ℕ) (d : Bytes) → IsNear c r uniq upto → Shows c d r → IsNear c (places c d) uniq upto
+shown_near c r uniq upto d near shows = thinned_near c 0 r (places c d) (λ k lt. inl (shows k lt)) uniq upto near
 
-pub holds_page : (c : Config) (r : ℕ → Place) (j : ℕ → Record) (need place : ℕ) (p : LogPage) (d : Bytes) → IsNext c r j place p → IsLogged c r j need p.first → MayHavePage c r place p d → HoldsLog c j need p.first (end_of p) d
-holds_page c r j need place p d next log (inl shows) = record { upto = p.first; from = omega arith; to = omega arith; logged = shown_logged c r j need p.first d log shows }
-holds_page c r j need place p d next log (inr shows) = record { upto = end_of p; from = omega arith; to = omega arith; logged = shown_logged c (with_page r place p) j need (end_of p) d (put_logged c r j need place p next log) shows }
+pub holds_none : (c : Config) (r : ℕ → Place) (j : ℕ → Record) (need upto uniq : ℕ) (d : Bytes) → IsLogged c r j need upto → IsNear c r uniq upto → Shows c d r → HoldsLog c j need upto upto uniq d
+holds_none c r j need upto uniq d log near shows = record { upto = upto; from = omega arith; to = omega arith; logged = shown_logged c r j need upto d log shows; near = shown_near c r uniq upto d near shows }
 
-pub holds_file : (c : Config) (r : ℕ → Place) (j : ℕ → Record) (need upto file : ℕ) (d : Bytes) → IsFreeFile c need file r → IsLogged c r j need upto → MayBeClosed c r file d → HoldsLog c j need upto upto d
-holds_file c r j need upto file d free log may = record {
+pub holds_page : (c : Config) (r : ℕ → Place) (j : ℕ → Record) (need place : ℕ) (p : LogPage) (uniq : ℕ) (d : Bytes) → IsNext c r j place p → IsLogged c r j need p.first → IsNear c r uniq p.first → uniq ≤ p.uniq + 1 → MayHavePage c r place p d
+    → HoldsLog c j need p.first (end_of p) uniq d
+holds_page c r j need place p uniq d next log near low (inl shows) = record { upto = p.first; from = omega arith; to = omega arith; logged = shown_logged c r j need p.first d log shows; near = shown_near c r uniq p.first d near shows }
+holds_page c r j need place p uniq d next log near low (inr shows) = record {
+  upto = end_of p;
+  from = omega arith;
+  to = omega arith;
+  logged = shown_logged c (with_page r place p) j need (end_of p) d (put_logged c r j need place p next log) shows;
+  near = shown_near c (with_page r place p) uniq (end_of p) d (put_near c r j need place p uniq next log low) shows;
+}
+
+pub holds_file : (c : Config) (r : ℕ → Place) (j : ℕ → Record) (need upto uniq file : ℕ) (d : Bytes) → IsFreeFile c need file r → IsLogged c r j need upto → IsNear c r uniq upto → MayBeClosed c r file d → HoldsLog c j need upto upto uniq d
+holds_file c r j need upto uniq file d free log near may = record {
   upto = upto;
   from = omega arith;
   to = omega arith;
-  logged = thinned_logged c need r (places c d) (λ k lt. ⊎_elim (λ same. inl same) (λ shut. inr (shut.1, λ p is. free k p lt shut.0 is)) (may k lt)) j upto log;
+  logged = thinned_logged c need r (places c d) thin j upto log;
+  near = thinned_near c need r (places c d) thin uniq upto near;
 }
+  where
+    thin : IsThinned c need r (places c d)
+    thin k lt = ⊎_elim (λ same. inl same) (λ shut. inr (shut.1, λ p is. free k p lt shut.0 is)) (may k lt)
+
+pub holds_lower : (c : Config) (j : ℕ → Record) (need flushed total uniq lower : ℕ) (d : Bytes) → lower ≤ uniq → HoldsLog c j need flushed total uniq d → HoldsLog c j need flushed total lower d
+holds_lower c j need flushed total uniq lower d le holds = record { upto = holds.upto; from = holds.from; to = holds.to; logged = holds.logged; near = λ p s end. let at = holds.near p s end in omega (arith, at, le) }
 
 pub free_thinned : (c : Config) (need file : ℕ) (r : ℕ → Place) → IsFreeFile c need file r → IsThinned c need r (without_file c file r)
 free_thinned c need file r free k lt = by_file (is_in_file c file k) refl

@@ -9,7 +9,7 @@ use Rattle.ol_rules.specs.DiskValue.{OpenLog, run_records}
 use Rattle.ol_rules.specs.Ring.{file_of}
 use Rattle.ol_ports.specs.Disk.{Bytes}
 use Rattle.ol_log_places.specs.Places.{Bad, Closed, Open, Place, places}
-use Rattle.ol_log_places.specs.Runs.{AllStand, Chain, Covers, Has, IsLogged, IsOrderly, IsRun, Stands, end_of, journal_at, log_of, open_logs, run_in}
+use Rattle.ol_log_places.specs.Runs.{AllStand, Chain, Covers, Has, IsLogged, IsNear, IsOrderly, IsRun, Precedes, Stands, end_of, journal_at, log_of, open_logs, run_in}
 use Rattle.ol_log_places.specs.Writes.{IsNext, IsThinned, MayHavePage, with_page}
 use Rattle.ol_log_places.proofs.Logs.{chain_snoc, compare, logs_same}
 use Rattle.ol_log_places.proofs.Runs.{chain_le, open_page, run_found, run_is, run_none}
@@ -44,6 +44,11 @@ logged_run c r j need upto lt log =
     let found = run_is c r (log_pages c) log.orderly need upto lt log.covers in
     (found.0, found.1, found.2, run_agrees c r j (log_pages c) log.orderly log.agrees (run_in (open_logs c r)) found.0 upto found.2.chain found.2.stand)
 
+-- a page does not go before itself
+not_itself : (p q : LogPage) → p ≡ q → Precedes p q → ⊥
+not_itself p q same (inl lower) = omega (arith, lower, ap (λ (z : LogPage). z.uniq) same)
+not_itself p q same (inr both) = omega (arith, both.1, ap (λ (z : LogPage). z.index) same)
+
 -- ---- pages below need are closed
 
 module _ (c : Config) (need : ℕ) (old new : ℕ → Place) (thin : IsThinned c need old new) where
@@ -75,6 +80,9 @@ module _ (c : Config) (need : ℕ) (old new : ℕ → Place) (thin : IsThinned c
     one_use = λ p q s t. log.one_use p q (still p s) (still q t);
     order = λ p q s t. log.order p q (still p s) (still q t);
   }
+
+  pub thinned_near : (uniq upto : ℕ) → IsNear c old uniq upto → IsNear c new uniq upto
+  thinned_near uniq upto near p s end = near p (still p s) end
 
 -- ---- a page is put behind the last
 
@@ -176,14 +184,23 @@ put_logged c r j need k p next log = record {
       (λ qp. ⊎_elim (λ sp. ap (λ (z : LogPage). z.uniq) (qp ∙ sym sp)) (λ old. ap (λ (z : LogPage). z.uniq) qp ∙ sym (next.behind s old (sym file ∙ ap (λ (z : LogPage). file_of c z.uniq) qp)).0) (split s u))
       (λ old. ⊎_elim (λ sp. (next.behind q old (file ∙ ap (λ (z : LogPage). file_of c z.uniq) sp)).0 ∙ sym (ap (λ (z : LogPage). z.uniq) sp)) (λ older. log.one_use q s old older file) (split s u))
       (split q t);
-  order = λ q s t u uniq lower. ⊎_elim
-      (λ qp. ⊎_elim
-      (λ sp. absurd (omega (arith, lower, ap (λ (z : LogPage). z.index) qp, ap (λ (z : LogPage). z.index) sp)))
-      (λ old. absurd (let high = (next.behind s old (ap (file_of c) (sym uniq ∙ ap (λ (z : LogPage). z.uniq) qp))).1 in omega (arith, high, lower, ap (λ (z : LogPage). z.index) qp)))
-      (split s u))
-      (λ old. ⊎_elim (λ sp. let le = log.covers.last q old in omega (arith, le, ap (λ (z : LogPage). z.first) sp)) (λ older. log.order q s old older uniq lower) (split s u))
+  order = λ q s t u before. ⊎_elim
+      (λ qp. absurd (⊎_elim (λ sp. not_itself q s (qp ∙ sym sp) before) (λ old. not_old s old (subst (λ (z : LogPage). Precedes z s) qp before)) (split s u)))
+      (λ old. ⊎_elim (λ sp. let le = log.covers.last q old in omega (arith, le, ap (λ (z : LogPage). z.first) sp)) (λ older. log.order q s old older before) (split s u))
       (split q t);
 }
   where
+    -- the page goes before no page that stood
+    not_old : (s : LogPage) → Stands r (log_pages c) s → Precedes p s → ⊥
+    not_old s old (inl lower) = let le = next.newest s old in omega (arith, le, lower)
+    not_old s old (inr same) = let high = (next.behind s old (ap (file_of c) (sym same.0))).1 in omega (arith, high, same.1)
+
     split : (q : LogPage) → Stands (with_page r k p) (log_pages c) q → (q ≡ p) ⊎ Stands r (log_pages c) q
     split q s = either c r k p next.within next.shut next.some q s
+
+-- a number that is at most one above the page's is near, as the page alone ends last
+pub put_near : (c : Config) (r : ℕ → Place) (j : ℕ → Record) (need : ℕ) (k : ℕ) (p : LogPage) (uniq : ℕ) → IsNext c r j k p → IsLogged c r j need p.first → uniq ≤ p.uniq + 1 → IsNear c (with_page r k p) uniq (end_of p)
+put_near c r j need k p uniq next log low q s end = ⊎_elim
+    (λ same. let e = ap (λ (z : LogPage). z.uniq) same in omega (arith, low, e))
+    (λ old. absurd (let le = log.covers.last q old in let some = next.some in omega (arith, le, end, some)))
+    (either c r k p next.within next.shut next.some q s)

@@ -1,6 +1,6 @@
 -- The standing run of the places of a log, and what the places hold of a journal.
 use Rattle.std.specs.List.{range_with_len}
-use Rattle.std.specs.Prelude.{List, None, [], fold, length, map, suc, zero, ℕ, ◌++◌, ◌+◌, ◌<◌, ◌∷◌, ◌≡◌, ◌≢◌, ◌≤◌}
+use Rattle.std.specs.Prelude.{List, None, [], fold, length, map, suc, zero, ℕ, ◌⊎◌, ◌++◌, ◌+◌, ◌<◌, ◌∷◌, ◌≡◌, ◌≢◌, ◌≤◌}
 use Rattle.ol_values.specs.declared.record.Record.{Record}
 use Rattle.ol_values.specs.Config.{Config, log_pages}
 use Rattle.ol_values.specs.LogPages.{LogPage}
@@ -87,6 +87,10 @@ pub record IsRun (c : Config) (r : ℕ → Place) (n : ℕ) (run : List OpenLog)
 abbrev pub journal_at : (ℕ → Record) → ℕ → ℕ → List Record
 journal_at j first count = map j (range_with_len first count)
 
+-- a page goes before another: its unique number is lower, or they have one and its index is lower
+abbrev pub Precedes : LogPage → LogPage → Type 0
+Precedes p q = (p.uniq < q.uniq) ⊎ ((p.uniq ≡ q.uniq) × (p.index < q.index))
+
 -- the places hold the journal from need to before upto, and nothing behind it
 pub record IsLogged (c : Config) (r : ℕ → Place) (j : ℕ → Record) (need upto : ℕ) : Type 0 where
   pub orderly : IsOrderly r (log_pages c)
@@ -94,12 +98,17 @@ pub record IsLogged (c : Config) (r : ℕ → Place) (j : ℕ → Record) (need 
   pub agrees : (p : LogPage) → Stands r (log_pages c) p → p.records ≡ journal_at j p.first (length p.records)
   -- a file has pages of one unique number
   pub one_use : (p q : LogPage) → Stands r (log_pages c) p → Stands r (log_pages c) q → file_of c p.uniq ≡ file_of c q.uniq → p.uniq ≡ q.uniq
-  -- and their positions rise with their places
-  pub order : (p q : LogPage) → Stands r (log_pages c) p → Stands r (log_pages c) q → p.uniq ≡ q.uniq → p.index < q.index → end_of p ≤ q.first
+  -- and positions rise with unique numbers, and in a file with the index
+  pub order : (p q : LogPage) → Stands r (log_pages c) p → Stands r (log_pages c) q → Precedes p q → end_of p ≤ q.first
 
--- a disk holds the journal from need on, up to some position from flushed to total
-pub record HoldsLog (c : Config) (j : ℕ → Record) (need flushed total : ℕ) (d : Bytes) : Type 0 where
+-- a unique number is at most one above that of each page that ends just before a position
+abbrev pub IsNear : Config → (ℕ → Place) → ℕ → ℕ → Type 0
+IsNear c r uniq upto = (p : LogPage) → Stands r (log_pages c) p → end_of p ≡ upto → uniq ≤ p.uniq + 1
+
+-- a disk holds the journal from need on, up to some position from flushed to total; a unique number is at most one above the last page's
+pub record HoldsLog (c : Config) (j : ℕ → Record) (need flushed total uniq : ℕ) (d : Bytes) : Type 0 where
   pub upto : ℕ
   pub from : flushed ≤ upto
   pub to : upto ≤ total
   pub logged : IsLogged c (places c d) j need upto
+  pub near : IsNear c (places c d) uniq upto

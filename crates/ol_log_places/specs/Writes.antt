@@ -59,13 +59,14 @@ pub record IsClosing (past : Past) (c : Config) (r : ℕ → Place) (file k : �
 abbrev pub IsThinned : Config → ℕ → (ℕ → Place) → (ℕ → Place) → Type 0
 IsThinned c need old new = (k : ℕ) → k < log_pages c → (new k ≡ old k) ⊎ ((new k ≡ Closed) × ((p : LogPage) → old k ≡ Open p → end_of p ≤ need))
 
--- a page may be put at a place: that is closed, the page has records of the journal, and the open pages of its file have its unique number and lower indexes
+-- a page may be put at a place: that is closed, the page has records of the journal, open pages of its file have its unique number and lower indexes, and no open page has a greater number
 pub record IsNext (c : Config) (r : ℕ → Place) (j : ℕ → Record) (place : ℕ) (p : LogPage) : Type 0 where
   pub within : place < log_pages c
   pub shut : r place ≡ Closed
   pub some : 0 < length p.records
   pub agrees : p.records ≡ journal_at j p.first (length p.records)
   pub behind : (q : LogPage) → Stands r (log_pages c) q → file_of c q.uniq ≡ file_of c p.uniq → (q.uniq ≡ p.uniq) × (q.index < p.index)
+  pub newest : (q : LogPage) → Stands r (log_pages c) q → q.uniq ≤ p.uniq
 
 -- each open page of this file ends at or below need
 abbrev pub IsFreeFile : Config → ℕ → ℕ → (ℕ → Place) → Type 0

@@ -11,7 +11,7 @@ ghost use Rattle.ol_ports.specs.Disk.{Bytes, Past, page_list, seen};
 ghost use Rattle.ol_ports.specs.Frames.{FramedAt, IsSettledIn};
 ghost use Rattle.ol_rules.specs.Ring.{file_of};
 ghost use Rattle.ol_log_places.specs.Places.{Closed, IsPlaced, Open, Place, Shows, in_log, place_number, places};
-ghost use Rattle.ol_log_places.specs.Runs.{Covers, HoldsLog, IsLogged, IsOrderly, IsRun, StandAtPlaces, Stands, end_of, journal_at, log_of, open_logs, run_in};
+ghost use Rattle.ol_log_places.specs.Runs.{Covers, HoldsLog, IsLogged, IsNear, IsOrderly, IsRun, StandAtPlaces, Stands, end_of, journal_at, log_of, open_logs, run_in};
 ghost use Rattle.ol_log_places.specs.Writes.{GatesAre, IsFreeFile, IsNext, IsShutFile, IsThinned, MayBeClosed, MayHavePage, is_in_file, with_page, without_file};
 
 /// What stands at a place is told by its page of the log alone: it is closed exactly where the gate is not open; calls on other parts
@@ -53,18 +53,23 @@ pub fn next_page_is_put_or_not()
 {}
 
 /// Places hold a journal still where pages that end at or below `need` are closed, and up to the end of the next page where that
-/// is put behind the last.
+/// is put behind the last. A unique number that is at most one above the last page's stays so.
 pub fn log_is_kept()
     ensures closed { (c : Config) (j : ℕ → RecordValue) (need upto : ℕ) (r s : ℕ → Place) → IsThinned c need r s → IsLogged c r j need upto → IsLogged c s j need upto }
     ensures put { (c : Config) (j : ℕ → RecordValue) (need : ℕ) (r : ℕ → Place) (place : ℕ) (p : LogPage) → IsNext c r j place p → IsLogged c r j need p.first → IsLogged c (with_page r place p) j need (end_of p) }
+    ensures closed_near { (c : Config) (need upto uniq : ℕ) (r s : ℕ → Place) → IsThinned c need r s → IsNear c r uniq upto → IsNear c s uniq upto }
+    ensures put_near { (c : Config) (j : ℕ → RecordValue) (need uniq : ℕ) (r : ℕ → Place) (place : ℕ) (p : LogPage) → IsNext c r j place p → IsLogged c r j need p.first → uniq ≤ p.uniq + 1 → IsNear c (with_page r place p) uniq (end_of p) }
 {}
 
 /// A disk holds the log after a stop in the writing of the next page, or in the closing of a file whose pages all end at or
-/// below `need`, or in neither.
+/// below `need`, or in neither. A unique number that is at most one above the last page's stays so, as does each lower one.
 pub fn stop_leaves_the_log()
-    ensures none { (c : Config) (j : ℕ → RecordValue) (need upto : ℕ) (r : ℕ → Place) (d : Bytes) → IsLogged c r j need upto → Shows c d r → HoldsLog c j need upto upto d }
-    ensures page { (c : Config) (j : ℕ → RecordValue) (need : ℕ) (r : ℕ → Place) (place : ℕ) (p : LogPage) (d : Bytes) → IsNext c r j place p → IsLogged c r j need p.first → MayHavePage c r place p d → HoldsLog c j need p.first (end_of p) d }
-    ensures file { (c : Config) (j : ℕ → RecordValue) (need upto file : ℕ) (r : ℕ → Place) (d : Bytes) → IsFreeFile c need file r → IsLogged c r j need upto → MayBeClosed c r file d → HoldsLog c j need upto upto d }
+    ensures none { (c : Config) (j : ℕ → RecordValue) (need upto uniq : ℕ) (r : ℕ → Place) (d : Bytes) → IsLogged c r j need upto → IsNear c r uniq upto → Shows c d r → HoldsLog c j need upto upto uniq d }
+    ensures page { (c : Config) (j : ℕ → RecordValue) (need uniq : ℕ) (r : ℕ → Place) (place : ℕ) (p : LogPage) (d : Bytes) → IsNext c r j place p → IsLogged c r j need p.first → IsNear c r uniq p.first → uniq ≤ p.uniq + 1
+        → MayHavePage c r place p d → HoldsLog c j need p.first (end_of p) uniq d }
+    ensures file { (c : Config) (j : ℕ → RecordValue) (need upto uniq file : ℕ) (r : ℕ → Place) (d : Bytes) → IsFreeFile c need file r → IsLogged c r j need upto → IsNear c r uniq upto → MayBeClosed c r file d
+        → HoldsLog c j need upto upto uniq d }
+    ensures lower { (c : Config) (j : ℕ → RecordValue) (need flushed total uniq lower : ℕ) (d : Bytes) → lower ≤ uniq → HoldsLog c j need flushed total uniq d → HoldsLog c j need flushed total lower d }
     ensures thinned { (c : Config) (need file : ℕ) (r : ℕ → Place) → IsFreeFile c need file r → IsThinned c need r (without_file c file r) }
 {}
 

@@ -1,15 +1,22 @@
 -- The page that is written next goes to a file that may be used, and leaves the last page.
-use Rattle.std.specs.List.{range_with_len, take_while}
-use Rattle.std.specs.Prelude.{Bool, List, None, Option, Some, [], false, if◌then◌else◌, is_some, length, map, suc, true, ℕ, ◌%◌, ◌*◌, ◌+◌, ◌-◌, ◌<◌, ◌==◌, ◌∷◌, ◌≡◌, ◌≤◌}
+use Rattle.std.specs.List.{AllByRecursion, find, range_with_len, take_while}
+use Rattle.std.specs.Option.{option_map}
+use Rattle.std.specs.Prelude.{Bool, IfSome, List, None, Option, Some, [], false, if◌then◌else◌, is_some, length, map, not, suc, true, ℕ, ◌%◌, ◌&&◌, ◌*◌, ◌+◌, ◌-◌, ◌<◌, ◌==◌, ◌∷◌, ◌≡◌, ◌≤◌}
 use Rattle.std.proofs.Common.{ap, arith, cond, inl, inr, ne_eqb, refl, subst, sym, ◌∙◌}
-use Rattle.std.proofs.lemmas.Bool.Decides.{eqb_tells}
+use Rattle.std.proofs.lemmas.Bool.{and_parts, cases_eq, eqb-false}
+use Rattle.std.proofs.lemmas.Bool.Decides.{eqb_tells, nat_tests}
 use Rattle.std.proofs.lemmas.List.Sums.{take_while-cons}
 use Rattle.std.proofs.lemmas.Nat.{mod_below}
 use Rattle.std.proofs.Math.Nat.{mod-add-mod, mod-eq_of_lt, mod_self}
-use Rattle.ol_rules.specs.Ring.{Reuse, Ring, Use, file_of, following, is_closed, is_reusable, last_range, room, room_after, unwritten}
+use Rattle.ol_rules.specs.Ring.{Reuse, Ring, Use, file_of, following, is_backed, is_closed, is_reusable, last_range, room, room_after, to_back_up, unwritten}
 use Rattle.ol_values.specs.Config.{Config}
 use Rattle.ol_log_state.specs.declared.places.NextPage.{NextPage}
-use Rattle.ol_log_state.specs.Files.{Files, current_use, log_config, next_page, page_behind, ring_in}
+use Rattle.ol_log_state.specs.declared.log_files.LogFiles.TheInside.{Inside}
+use Rattle.ol_log_state.specs.declared.places.Use.{Use as ToldUse}
+use Rattle.ol_log_state.specs.Files.{Files, current_use, log_config, next_page, page_behind, ring_in, told_use}
+use Rattle.ol_log_state.specs.StoredFiles.{AreApart, IsLogFiles, files_in, helds, uniqs}
+use Rattle.ol_log_state.specs.Uses.{Stored, use_of}
+use Rattle.ol_log_state.proofs.ListLaws.{all_found}
 
 -- ---- the file behind the current one
 
@@ -17,7 +24,8 @@ file_behind : (c : Config) (uniq : ℕ) → 1 ≤ uniq → file_of c (uniq + 1) 
 file_behind c uniq some =
     ap (λ n. n % c.log_files) (let e : uniq + 1 - 1 ≡ uniq - 1 + 1 = omega (arith, some) in e) ∙ sym (mod-add-mod (uniq - 1) c.log_files 1)
 
-other_file : (c : Config) (uniq : ℕ) → 1 ≤ uniq → 2 ≤ c.log_files → (file_of c (uniq + 1) == file_of c uniq) ≡ false
+-- the next use stands in another file
+pub other_file : (c : Config) (uniq : ℕ) → 1 ≤ uniq → 2 ≤ c.log_files → (file_of c (uniq + 1) == file_of c uniq) ≡ false
 other_file c uniq some files =
     let r = file_of c uniq in
     let below : r < c.log_files = mod_below (uniq - 1) c.log_files (omega (arith, files)) in
@@ -74,3 +82,74 @@ page_leaves c r (Some u) p e enters there uniq files =
 -- where a use stands in the current file, a file that is entered is another
 pub next_leaves : (f : Files) → 1 ≤ f.uniq → 2 ≤ f.area.count → is_some (current_use f) ≡ true → (next_page f).enters ≡ true → (file_of (log_config f.area) (next_page f).uniq == file_of (log_config f.area) f.uniq) ≡ false
 next_leaves f uniq files there enters = page_leaves (log_config f.area) (ring_in f) (current_use f) (next_page f) refl enters there uniq files
+
+-- ---- a closed use has a lower number than the next page
+
+pub number_from : (c : Config) (r : Ring) (o : Option Use) → r.uniq ≤ (page_behind c r o).uniq
+number_from c r None = omega arith
+number_from c r (Some u) =
+    elim (is_closed c r u) as (λ b. r.uniq ≤ (let q : NextPage = (if b then record { uniq = r.uniq + 1; index = 0; enters = true } else record { uniq = r.uniq; index = (last_range u).index + 1; enters = false }) in q).uniq) [
+      | true ↦ omega arith
+      | false ↦ omega arith
+    ]
+
+of_uses : (P : ℕ → Type 0) (items : List Stored) → AllByRecursion P (uniqs items) → AllByRecursion (λ (w : Use). P w.uniq) (map use_of (helds items))
+of_uses P [] all = tt
+of_uses P (s ∷ items) all = (all.0, of_uses P items all.1)
+
+-- a use that is found is the one of its number
+found_numbered : (items : List Stored) (test : Use → Bool) (u : Use) → AreApart (uniqs items) → find test (map use_of (helds items)) ≡ Some u → find (λ (w : Use). w.uniq == u.uniq) (map use_of (helds items)) ≡ Some u
+found_numbered [] test u apart found = absurd (let g : None ≡ Some u = found in cc)
+found_numbered (s ∷ items) test u apart found =
+    elim (test (use_of s.held)) as (λ b. cond b (Some (use_of s.held)) (find test (map use_of (helds items))) ≡ Some u → cond (s.held.uniq == u.uniq) (Some (use_of s.held)) (find (λ (w : Use). w.uniq == u.uniq) (map use_of (helds items))) ≡ Some u) [
+      | true ↦ λ is.
+          (let same : use_of s.held ≡ u = cc in
+          let mine : (s.held.uniq == u.uniq) ≡ true = ap (λ (w : Use). w.uniq == u.uniq) same ∙ itself u.uniq in
+          ap (λ b. cond b (Some (use_of s.held)) (find (λ (w : Use). w.uniq == u.uniq) (map use_of (helds items)))) mine ∙ ap Some same)
+      | false ↦ λ is.
+          (let off = all_found (λ (w : Use). (w.uniq == s.held.uniq) ≡ false) test (map use_of (helds items)) u (of_uses (λ n. (n == s.held.uniq) ≡ false) items apart.0) is in
+          let other : (s.held.uniq == u.uniq) ≡ false = ne_eqb s.held.uniq u.uniq (λ e. eqb-false u.uniq s.held.uniq off (sym e)) in
+          ap (λ b. cond b (Some (use_of s.held)) (find (λ (w : Use). w.uniq == u.uniq) (map use_of (helds items)))) other ∙ found_numbered items test u apart.1 is)
+    ] found
+  where
+    itself : (n : ℕ) → (n == n) ≡ true
+    itself n = grind (arith, nat_tests)
+
+pub closed_below : (f : Inside) → IsLogFiles f → (test : Use → Bool) (u : Use) → find test (map use_of (helds f.uses.items)) ≡ Some u → is_closed (log_config f.area) (ring_in (files_in f)) u ≡ true → u.uniq < (next_page (files_in f)).uniq
+closed_below f is test u found closed = elim (cases_eq u.uniq f.uniq) [
+  | inl same ↦
+      (let r = ring_in (files_in f) in
+      let current : current_use (files_in f) ≡ Some u = subst (λ n. find (λ (w : Use). w.uniq == n) (map use_of (helds f.uses.items)) ≡ Some u) same (found_numbered f.uses.items test u is.numbered.apart found) in
+      let next : (next_page (files_in f)).uniq ≡ f.uniq + 1 =
+      ap (λ (o : Option Use). (page_behind (log_config f.area) r o).uniq) current
+      ∙ ap (λ b. (let q : NextPage = (if b then record { uniq = r.uniq + 1; index = 0; enters = true } else record { uniq = r.uniq; index = (last_range u).index + 1; enters = false }) in q).uniq) closed in
+      omega (arith, next, same))
+  | inr other ↦
+      (let most = all_found (λ (w : Use). w.uniq ≤ f.uniq) test (map use_of (helds f.uses.items)) u (of_uses (λ n. n ≤ f.uniq) f.uses.items is.numbered.up_to) found in
+      let from = number_from (log_config f.area) (ring_in (files_in f)) (current_use (files_in f)) in
+      omega (arith, most, from, other))
+]
+
+found_passes : (test : Use → Bool) (uses : List Use) (u : Use) → find test uses ≡ Some u → test u ≡ true
+found_passes test [] u found = absurd (let g : None ≡ Some u = found in cc)
+found_passes test (w ∷ uses) u found =
+    elim (test w) as (λ b. test w ≡ b → cond b (Some w) (find test uses) ≡ Some u → test u ≡ true) [
+      | true ↦ λ here is. (let same : w ≡ u = cc in subst (λ (x : Use). test x ≡ true) same here)
+      | false ↦ λ off is. found_passes test uses u is
+    ] refl found
+
+-- so has the use that is to be backed up
+pub told_below : (f : Files) (m : Reuse) (n : ℕ) (o : Option ToldUse) → ((test : Use → Bool) (u : Use) → find test (map use_of f.uses) ≡ Some u → is_closed (log_config f.area) (ring_in f) u ≡ true → u.uniq < n)
+    → o ≡ option_map told_use (to_back_up (log_config f.area) m (ring_in f)) → IfSome o (λ (t : ToldUse). t.uniq < n)
+told_below f m n None below is = tt
+told_below f m n (Some t) below is = by_use (to_back_up (log_config f.area) m (ring_in f)) refl
+  where
+    by_use : (p : Option Use) → to_back_up (log_config f.area) m (ring_in f) ≡ p → t.uniq < n
+    by_use None e = absurd (let g : Some t ≡ None = is ∙ ap (option_map told_use) e in cc)
+    by_use (Some u) e =
+        let told : Some t ≡ Some (told_use u) = is ∙ ap (option_map told_use) e in
+        let number : Some t.uniq ≡ Some u.uniq = ap (option_map (λ (x : ToldUse). x.uniq)) told in
+        let same : t.uniq ≡ u.uniq = cc in
+        let test = (λ (w : Use). is_closed (log_config f.area) (ring_in f) w && not (is_backed m w)) in
+        let lt = below test u e (and_parts (is_closed (log_config f.area) (ring_in f) u) (not (is_backed m u)) (found_passes test (map use_of f.uses) u e)).0 in
+        omega (arith, lt, same)

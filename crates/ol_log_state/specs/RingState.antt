@@ -44,9 +44,13 @@ page_to_write s = record {
 
 -- ---- the start
 
--- the greatest of the anchor's file, those of the run and the one behind those that are backed up
+-- the greater of the anchor's file and the one behind those that are backed up
+abbrev pub first_uniq : RingStart → ℕ
+first_uniq start = max start.uniq (start.backed + 1)
+
+-- the greatest of that and those of the run
 abbrev pub current_uniq : RingStart → List LogHead → ℕ
-current_uniq start heads = greatest_of (max start.uniq (start.backed + 1)) heads
+current_uniq start heads = greatest_of (first_uniq start) heads
 
 -- the ring of a run with these heads, with nothing buffered
 abbrev pub started : Area → RingStart → List LogHead → RingState

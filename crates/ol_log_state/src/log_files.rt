@@ -2,9 +2,9 @@
 
 ghost use Rattle.std.specs.List.{AllByRecursion, find, position_from, range_with_len, take_while};
 ghost use Rattle.std.specs.Option.{option_map};
-ghost use Rattle.std.specs.Prelude.{◌≡◌, ◌≤◌, ◌<◌, ◌^◌, ◌+◌, ◌-◌, ◌*◌, ◌%◌, ◌==◌, ◌++◌, ◌∷◌, [], IfOk, IfSome, List, OnOk, false, filter, true, flat_map, is_some, length, map, not, vec_capacity, vec_len, ℕ};
+ghost use Rattle.std.specs.Prelude.{◌≡◌, ◌≤◌, ◌<◌, ◌^◌, ◌+◌, ◌-◌, ◌*◌, ◌%◌, ◌==◌, ◌++◌, ◌∷◌, [], Bool, IfOk, IfSome, List, OnOk, Some, false, filter, true, flat_map, is_some, length, map, not, vec_capacity, vec_len, ℕ};
 ghost use Rattle.ol_record.specs.declared.head.LogHead.{LogHead as HeadValue};
-ghost use Rattle.ol_rules.specs.Ring.{Reuse, at_use, blocker, file_of, following, is_closed, is_reusable, open_use, room, switched_off, to_back_up, uniq_in, unwritten, use_in_file, use_numbered, with_page_in, with_range};
+ghost use Rattle.ol_rules.specs.Ring.{Reuse, Use as UseValue, at_use, blocker, file_of, following, is_closed, is_reusable, open_use, room, switched_off, to_back_up, uniq_in, unwritten, use_in_file, use_numbered, with_page_in, with_range};
 ghost use Rattle.ol_log_state.specs.Files.{current_use, entered, extended, greatest_of, is_closed_use, log_config, next_page, ring_in, switched_files, told_use, uses_of_heads, with_page_at};
 ghost use Rattle.ol_log_state.specs.StoredFiles.{AreTaken, IsLogArea, IsRoomy, IsSpare, heads_in};
 ghost use Rattle.ol_log_places.specs.Heads.{IsInRun, IsUniq, IsWritten};
@@ -244,6 +244,8 @@ impl LogFiles {
         ensures uniq { self.now.uniq < 2 ^ 62 → IsUniq result.uniq }
         ensures reuse { (m : Reuse) → 1 ≤ room (log_config self.now.area) m (ring_in self.now) → (next_page self.now).enters ≡ true → is_reusable (log_config self.now.area) m (ring_in self.now) (file_of (log_config self.now.area) (next_page self.now).uniq) ≡ true }
         ensures leaves { is_some (current_use self.now) ≡ true → (next_page self.now).enters ≡ true → (file_of (log_config self.now.area) (next_page self.now).uniq == file_of (log_config self.now.area) self.now.uniq) ≡ false }
+        // A use that is closed has a lower number.
+        ensures closed { (test : UseValue → Bool) (u : UseValue) → find test (map use_of self.now.uses) ≡ Some u → is_closed (log_config self.now.area) (ring_in self.now) u ≡ true → u.uniq < (next_page self.now).uniq }
         ensures index { result.index < self.now.area.pages }
         ensures limit { result.index < 1000 }
     {

@@ -182,8 +182,12 @@ impl LogState {
 
     /// The least closed use that is not backed up; `None` exactly where there is none.
     pub fn unbacked(&self) -> Option<Use>
-        ensures { result ≡ option_map told_use (to_back_up (config_of self.now) self.now.reuse (ring_of self.now)) }
+        ensures value { result ≡ option_map told_use (to_back_up (config_of self.now) self.now.reuse (ring_of self.now)) }
+        // The next page is of a later use.
+        ensures below { IfSome result (λ u. u.uniq < (next_page self.now.files).uniq) }
     {
+        // This tells that a closed use is one before that of the next page.
+        let _place = self.files.next_page();
         self.files.unbacked(self.backed)
     }
 

@@ -1,13 +1,13 @@
 -- Which calls in memory keep the disk as the ring has it, and when a file may be entered.
 use Rattle.std.specs.List.{find}
 use Rattle.std.specs.Option.{option_map}
-use Rattle.std.specs.Prelude.{Bool, None, Option, Some, [], false, if◌then◌else◌, is_none, is_some, slice_get, length, map, nat_lt, true, ℕ, ◌%◌, ◌++◌, ◌+◌, ◌-◌, ◌<◌, ◌==◌, ◌∷◌, ◌≡◌, ◌≤◌, List}
+use Rattle.std.specs.Prelude.{Bool, None, Option, Some, [], false, if◌then◌else◌, is_none, is_some, slice_get, length, map, nat_lt, true, ℕ, ◌%◌, ◌||◌, ◌++◌, ◌+◌, ◌-◌, ◌<◌, ◌==◌, ◌∷◌, ◌≡◌, ◌≤◌, List}
 use Rattle.std.proofs.Common.{ap, arith, inl, inr, length-append, refl, subst, sym, ◌∙◌}
 use Rattle.std.proofs.lemmas.Bool.{and_parts, cases_eq}
 use Rattle.std.proofs.lemmas.Bool.Decides.{nat_tests}
 use Rattle.ol_values.specs.Config.{Config, log_pages}
 use Rattle.ol_values.specs.declared.record.Record.{Record}
-use Rattle.ol_rules.specs.Ring.{Ring, Use, file_of, is_backed, is_reusable, last_position, last_range, may_reuse, room, use_in_file, written}
+use Rattle.ol_rules.specs.Ring.{Ring, Use, file_of, is_backed, is_closed, is_reusable, last_position, last_range, may_reuse, room, unwritten, use_in_file, written}
 use Rattle.ol_chunks.specs.Places.{log_area}
 use Rattle.ol_chunks.specs.declared.table.Area.{Area}
 use Rattle.ol_ports.specs.Disk.{Past}
@@ -16,15 +16,18 @@ use Rattle.ol_log_places.specs.Runs.{Stands, end_of}
 use Rattle.ol_log_places.proofs.Files.{there_file}
 use Rattle.ol_log_places.proofs.Logs.{compare}
 use Rattle.ol_log_state.specs.declared.places.NextPage.{NextPage}
-use Rattle.ol_log_state.specs.Files.{current_use, next_page, page_behind}
-use Rattle.ol_log_state.specs.RingState.{RingState, buffered, ring_of, switched, turned, with_backed, with_need}
+use Rattle.ol_record.specs.declared.head.LogHead.{LogHead}
+use Rattle.ol_log_state.specs.declared.places.RingStart.{RingStart}
+use Rattle.ol_log_state.specs.Files.{current_use, log_config, next_page, page_behind, ring_in}
+use Rattle.ol_log_state.specs.RingState.{RingState, buffered, first_uniq, ring_of, started, switched, turned, with_backed, with_need}
 use Rattle.ol_log_state.proofs.NextLaws.{next_leaves, next_reuses}
 use Rattle.ol_log_state.proofs.RingLaws.{switched_ring}
 use Rattle.ol_loglog.specs.RingValue.{HasRoom, IsLogRing, RingValue, first_unwritten, with_state}
-use Rattle.ol_loglog.specs.Ready.{IsFloor, IsInOrder, IsNextFree, IsNotLast, IsReady, current_file, next_file}
+use Rattle.ol_loglog.specs.Ready.{IsFloor, IsInOrder, IsNextFree, IsNextUnbacked, IsNotLast, IsReady, current_file, next_file}
+use Rattle.ol_loglog.proofs.Opening.{greatest_from}
 use Rattle.ol_loglog.proofs.Readies.{stand}
 use Rattle.ol_loglog.proofs.Rules.{reusable_is}
-use Rattle.ol_loglog.proofs.Steps.{Stepped, found_map, next_is, of_map, room_is, stepped}
+use Rattle.ol_loglog.proofs.Steps.{Stepped, found_map, next_is, number_between, of_map, room_is, stepped}
 
 -- ---- a file that may be entered
 
@@ -134,6 +137,9 @@ ready_switched past v r floor j ready =
           (let was = ready.told p t above in
           let kept = ap (λ x. x.first + x.count) (off_last v.state.files.uniq was.0) in
           (f was.0, in_file_off v.config v.state (file_of v.config p.uniq) ∙ ap (option_map f) was.1, omega (arith, was.2, kept)));
+      newest = ready.newest;
+      near = ready.near;
+      last = λ p u t end is. (let w = of_map f (current_use v.state.files) u (sym (current_off v.config v.state) ∙ is) in ready.last p w.0 t end w.1);
     }
 
 pub order_switched : (c : Config) (s : RingState) → IsInOrder c s → IsInOrder c (switched s)
@@ -188,6 +194,9 @@ ready_backed past v r floor uniq j ready = record {
   alone = ready.alone;
   current = ready.current;
   told = ready.told;
+  newest = ready.newest;
+  near = ready.near;
+  last = ready.last;
 }
 
 pub ready_need : (past : Past) (v : RingValue) (r : ℕ → Place) (floor need : ℕ) (j : ℕ → Record) → IsReady past v r floor j → IsReady past (with_state (with_need need v.state) v) r floor j
@@ -199,6 +208,9 @@ ready_need past v r floor need j ready = record {
   alone = ready.alone;
   current = ready.current;
   told = ready.told;
+  newest = ready.newest;
+  near = ready.near;
+  last = ready.last;
 }
 
 pub ready_elsewhere : (past now : Past) (v : RingValue) (r : ℕ → Place) (floor : ℕ) (j : ℕ → Record) → IsPlaced now v.config r → IsReady past v r floor j → IsReady now v r floor j
@@ -210,6 +222,9 @@ ready_elsewhere past now v r floor j placed ready = record {
   alone = ready.alone;
   current = ready.current;
   told = ready.told;
+  newest = ready.newest;
+  near = ready.near;
+  last = ready.last;
 }
 
 pub ready_higher : (past : Past) (v : RingValue) (r : ℕ → Place) (floor higher : ℕ) (j : ℕ → Record) → floor ≤ higher → IsReady past v r floor j → IsReady past v r higher j
@@ -227,6 +242,9 @@ ready_higher past v r floor higher j le ready = record {
   alone = ready.alone;
   current = ready.current;
   told = λ p t above. ready.told p t (omega (arith, le, above));
+  newest = ready.newest;
+  near = ready.near;
+  last = ready.last;
 }
 
 pub order_backed : (c : Config) (s : RingState) (uniq : ℕ) → IsInOrder c s → IsInOrder c (with_backed uniq s)
@@ -234,3 +252,46 @@ order_backed c s uniq order = record { ends = order.ends; last = order.last }
 
 pub order_need : (c : Config) (s : RingState) (need : ℕ) → IsInOrder c s → IsInOrder c (with_need need s)
 order_need c s need order = record { ends = order.ends; last = order.last }
+
+-- ---- the use of the next page is not backed up
+
+pub unbacked_started : (area : Area) (start : RingStart) (heads : List LogHead) → IsNextUnbacked (started area start heads)
+unbacked_started area start heads =
+    let most = greatest_from heads (first_uniq start) in
+    let between = number_between (started area start heads).files in
+    omega (arith, most, between.0)
+
+pub unbacked_turned : (s : RingState) → IsNextUnbacked s → IsNextUnbacked (turned s)
+unbacked_turned s below = let between = number_between (turned s).files in omega (arith, below, between.0)
+
+-- a use that is closed is closed once more
+off_closed : (c : Config) (r t : Ring) (u : Use) → t.uniq ≡ r.uniq → is_closed c r u ≡ true → is_closed c t (off r.uniq u) ≡ true
+off_closed c r t u number closed =
+    elim (u.uniq == r.uniq) as (λ b. is_closed c t (let x : Use = (if b then record u { switched = true } else u) in x) ≡ true) [
+      | true ↦ refl
+      | false ↦ ap (λ n. u.switched || (nat_lt u.uniq n || (unwritten c u == 0))) number ∙ closed
+    ]
+
+pub unbacked_switched : (s : RingState) → IsNextUnbacked s → IsNextUnbacked (switched s)
+unbacked_switched s below = by_use (current_use s.files) refl
+  where
+    by_closed : (u : Use) → current_use s.files ≡ Some u → (b : Bool) → is_closed (log_config s.files.area) (ring_in s.files) u ≡ b → IsNextUnbacked (switched s)
+    by_closed u is true closed =
+        let now = current_off (log_config s.files.area) s ∙ ap (option_map (off s.files.uniq)) is in
+        let next = ap (λ (o : Option Use). (page_behind (log_config s.files.area) (ring_in (switched s).files) o).uniq) now
+        ∙ ap (λ b. (let n : NextPage = (if b then record { uniq = s.files.uniq + 1; index = 0; enters = true } else record { uniq = s.files.uniq; index = (last_range (off s.files.uniq u)).index + 1; enters = false }) in n).uniq)
+        (off_closed (log_config s.files.area) (ring_in s.files) (ring_in (switched s).files) u refl closed) in
+        let between = number_between s.files in
+        omega (arith, below, between.1, next)
+    by_closed u is false open_ =
+        let was = ap (λ (o : Option Use). (page_behind (log_config s.files.area) (ring_in s.files) o).uniq) is
+        ∙ ap (λ b. (let n : NextPage = (if b then record { uniq = s.files.uniq + 1; index = 0; enters = true } else record { uniq = s.files.uniq; index = (last_range u).index + 1; enters = false }) in n).uniq) open_ in
+        let between = number_between (switched s).files in
+        omega (arith, below, was, between.0)
+
+    by_use : (o : Option Use) → current_use s.files ≡ o → IsNextUnbacked (switched s)
+    by_use None is =
+        let was = ap (λ (o : Option Use). (page_behind (log_config s.files.area) (ring_in s.files) o).uniq) is in
+        let between = number_between (switched s).files in
+        omega (arith, below, was, between.0)
+    by_use (Some u) is = by_closed u is (is_closed (log_config s.files.area) (ring_in s.files) u) refl

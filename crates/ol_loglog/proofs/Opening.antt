@@ -1,32 +1,36 @@
--- The ring of a run tells the pages that stand: an opening finds the disk ready.
+-- The ring of a run tells the pages that stand: an opening finds the disk ready, and the ring in order.
 use Rattle.std.specs.List.{find, list_any}
 use Rattle.std.specs.Option.{option_map}
-use Rattle.std.specs.Prelude.{Bool, List, None, Option, Some, [], false, fold, if◌then◌else◌, map, true, ℕ, ◌||◌, ◌⊎◌, ◌++◌, ◌+◌, ◌-◌, ◌<◌, ◌==◌, ◌∷◌, ◌≡◌, ◌≤◌}
-use Rattle.std.proofs.Common.{ap, arith, cond, inl, inr, refl, subst, sym, ⊎_elim, ◌∙◌}
+use Rattle.std.specs.Prelude.{Bool, List, None, Option, Some, [], false, fold, if◌then◌else◌, is_some, map, max, true, ℕ, ◌||◌, ◌⊎◌, ◌++◌, ◌+◌, ◌-◌, ◌<◌, ◌==◌, ◌∷◌, ◌≡◌, ◌≤◌}
+use Rattle.std.proofs.Common.{ap, arith, cond, inl, inr, ne_eqb, refl, subst, sym, ⊎_elim, ◌∙◌}
 use Rattle.std.proofs.lemmas.Bool.{eqb-true}
 use Rattle.std.proofs.lemmas.List.{append-nil, append_assoc}
 use Rattle.ol_values.specs.Config.{Config, log_pages}
 use Rattle.ol_values.specs.LogPages.{LogPage}
 use Rattle.ol_values.specs.declared.record.Record.{Record}
 use Rattle.ol_record.specs.LogPages.{head_of}
+use Rattle.ol_record.specs.declared.head.LogHead.{LogHead}
 use Rattle.ol_rules.specs.DiskValue.{AnchorValue, OpenLog, new_use, range_of, ring_found, use_with}
-use Rattle.ol_rules.specs.Ring.{Ring, Use, file_of, last_position, last_range}
+use Rattle.ol_rules.specs.Ring.{LogRange, Ring, Use, file_of, last_position, last_range}
+use Rattle.ol_chunks.specs.Limits.{IsConfig}
 use Rattle.ol_chunks.specs.Places.{log_area}
+use Rattle.ol_log_places.specs.Heads.{AreInRun}
 use Rattle.ol_log_places.specs.Places.{IsPlaced, Open, Place}
-use Rattle.ol_log_places.specs.Runs.{AllStand, Chain, Has, IsLogged, IsRun, Stands, end_of, open_logs, run_in}
+use Rattle.ol_log_places.specs.Runs.{AllStand, Chain, Has, IsLogged, IsNear, IsRun, Stands, end_of, open_logs, run_in}
 use Rattle.ol_log_places.specs.Scanning.{stood_of}
 use Rattle.ol_log_places.specs.Writes.{GatesAre}
 use Rattle.ol_log_places.proofs.Journals.{logged_run}
 use Rattle.ol_log_places.proofs.Logs.{In, compare, in_either, in_last, in_left}
 use Rattle.ol_log_places.proofs.Runs.{open_page, run_or_none}
 use Rattle.ol_log_state.specs.declared.places.RingStart.{RingStart}
-use Rattle.ol_log_state.specs.Files.{current_use}
-use Rattle.ol_log_state.specs.RingState.{RingState, heads_of_logs, ring_of, started}
+use Rattle.ol_log_state.specs.Files.{current_use, greatest_of}
+use Rattle.ol_log_state.specs.RingState.{RingState, first_uniq, heads_of_logs, ring_of, started}
 use Rattle.ol_log_state.specs.StoredFiles.{heads_in}
 use Rattle.ol_log_state.proofs.FoundLaws.{found_ring}
+use Rattle.ol_log_state.proofs.NextLaws.{other_file}
 use Rattle.ol_ports.specs.Disk.{Past}
 use Rattle.ol_loglog.specs.RingValue.{first_unwritten, ring_value}
-use Rattle.ol_loglog.specs.Ready.{IsReady}
+use Rattle.ol_loglog.specs.Ready.{IsInOrder, IsReady}
 use Rattle.ol_loglog.proofs.Steps.{found_map, found_passes, last_snoc, of_map, same_number, some_same}
 
 -- ---- lists of uses
@@ -87,7 +91,7 @@ numbered_in uses uniq = find (λ (u : Use). u.uniq == uniq) uses
 record Told (c : Config) (uses : List Use) (done : List OpenLog) : Type 0 where
   pub found : (l : OpenLog) → In l done → (u : Use) × (in_file c uses (file_of c l.page.uniq) ≡ Some u) × (end_of l.page ≤ last_position u + 1) × (l.page.index ≤ (last_range u).index)
   pub numbered : (uniq : ℕ) (u : Use) → numbered_in uses uniq ≡ Some u → in_file c uses (file_of c uniq) ≡ Some u
-  pub from : (file : ℕ) (u : Use) → in_file c uses file ≡ Some u → (l : OpenLog) × In l done × (l.page.uniq ≡ u.uniq)
+  pub from : (file : ℕ) (u : Use) → in_file c uses file ≡ Some u → (l : OpenLog) × In l done × (l.page.uniq ≡ u.uniq) × (last_range u ≡ range_of l.page)
 
 none_told : (c : Config) → Told c [] []
 unfolding In
@@ -112,7 +116,7 @@ module _ (c : Config) (r : ℕ → Place) (j : ℕ → Record) (floor upto : ℕ
     -- an earlier page of the same number has a lower index
     lower : (m : OpenLog) → In m done → m.page.uniq ≡ l.page.uniq → m.page.index ≤ l.page.index
     lower m i same = elim (compare l.page.index m.page.index) [
-      | inl lt ↦ absurd (let after = log.order l.page m.page here (stand m i) (sym same) lt in let some = log.orderly.some (stand m i).place m.page (stand m i).within (stand m i).is in let mine = log.orderly.some here.place l.page here.within here.is in omega (arith, after, ends m i, some, mine))
+      | inl lt ↦ absurd (let after = log.order l.page m.page here (stand m i) (inr (sym same, lt)) in let some = log.orderly.some (stand m i).place m.page (stand m i).within (stand m i).is in let mine = log.orderly.some here.place l.page here.within here.is in omega (arith, after, ends m i, some, mine))
       | inr le ↦ le
     ]
 
@@ -162,6 +166,19 @@ module _ (c : Config) (r : ℕ → Place) (j : ℕ → Record) (floor upto : ℕ
               let index = ap (λ x. x.index) range in
               (omega (arith, first, count, was.2), omega (arith, index, was.3))
 
+      from_more : (file : ℕ) (u w : Use) → in_file c uses file ≡ Some w → more_of l w ≡ u → (m : OpenLog) × In m (done ++ l ∷ []) × (m.page.uniq ≡ u.uniq) × (last_range u ≡ range_of m.page)
+      from_more file u w found e = by_number (w.uniq == l.page.uniq) refl
+        where
+          number : w.uniq ≡ u.uniq
+          number = sym (more_number l w) ∙ ap (λ (x : Use). x.uniq) e
+
+          by_number : (b : Bool) → (w.uniq == l.page.uniq) ≡ b → (m : OpenLog) × In m (done ++ l ∷ []) × (m.page.uniq ≡ u.uniq) × (last_range u ≡ range_of m.page)
+          by_number true same = (l, in_last l done, sym (eqb-true w.uniq l.page.uniq same) ∙ number, ap last_range (sym e) ∙ last_more w same)
+          by_number false other =
+              let fr = told.from file w found in
+              let kept = ap (λ b. last_range (let x : Use = (if b then record w { pages = w.pages ++ range_of l.page ∷ [] } else w) in x)) other in
+              (fr.0, in_left fr.0 done (l ∷ []) fr.1, fr.2 ∙ number, ap last_range (sym e) ∙ kept ∙ fr.3)
+
       more_told : Told c (map (more_of l) uses) (done ++ l ∷ [])
       more_told = record {
         found = λ m i. ⊎_elim
@@ -171,9 +188,7 @@ module _ (c : Config) (r : ℕ → Place) (j : ℕ → Record) (floor upto : ℕ
             (let w = of_map (more_of l) (numbered_in uses uniq) u (sym (found_map (λ (x : Use). x.uniq == uniq) (more_of l) uses (λ x. ap (λ n. n == uniq) (more_number l x))) ∙ is) in
             in_more (file_of c uniq) ∙ ap (option_map (more_of l)) (told.numbered uniq w.0 w.1) ∙ ap Some w.2);
         from = λ file u is.
-            (let w = of_map (more_of l) (in_file c uses file) u (sym (in_more file) ∙ is) in
-            let fr = told.from file w.0 w.1 in
-            (fr.0, in_left fr.0 done (l ∷ []) fr.1, fr.2 ∙ sym (more_number l w.0) ∙ ap (λ (x : Use). x.uniq) w.2));
+            (let w = of_map (more_of l) (in_file c uses file) u (sym (in_more file) ∙ is) in from_more file u w.0 w.1 w.2);
       }
 
     -- ---- it is the first of its use
@@ -202,8 +217,8 @@ module _ (c : Config) (r : ℕ → Place) (j : ℕ → Record) (floor upto : ℕ
             (λ mine. subst (λ (n : ℕ). in_file c (uses ++ new_use l.page ∷ []) (file_of c n) ≡ Some u) (eqb-true l.page.uniq uniq mine.0) (new_there ∙ ap Some mine.1))
             (find_end (λ (x : Use). x.uniq == uniq) uses (new_use l.page) u is);
         from = λ file u is. ⊎_elim
-            (λ old. (let fr = told.from file u old in (fr.0, in_left fr.0 done (l ∷ []) fr.1, fr.2)))
-            (λ mine. (l, in_last l done, ap (λ (x : Use). x.uniq) mine.1))
+            (λ old. (let fr = told.from file u old in (fr.0, in_left fr.0 done (l ∷ []) fr.1, fr.2, fr.3)))
+            (λ mine. (l, in_last l done, ap (λ (x : Use). x.uniq) mine.1, ap last_range (sym mine.1)))
             (find_end (λ (x : Use). file_of c x.uniq == file) uses (new_use l.page) u is);
       }
 
@@ -256,6 +271,35 @@ module _ (c : Config) (r : ℕ → Place) (j : ℕ → Record) (floor upto : ℕ
       let same = same_page l.0.page p x (in_stand run l.0 all l.1) s l.2 has in
       subst (λ (q : LogPage). (u : Use) × (in_file c uses (file_of c q.uniq) ≡ Some u) × (end_of q ≤ last_position u + 1) × (q.index ≤ (last_range u).index)) same (told.found l.0 l.1)
 
+  -- a page that ends at or behind another has no lower number
+  last_greatest : (l p : LogPage) → Stands r (log_pages c) l → Stands r (log_pages c) p → end_of p ≤ end_of l → p.uniq ≤ l.uniq
+  last_greatest l p t s le = elim (compare l.uniq p.uniq) [
+    | inl lt ↦ absurd (let after = log.order l p t s (inl lt) in let some = log.orderly.some s.place p s.within s.is in omega (arith, after, some, le))
+    | inr low ↦ low
+  ]
+
+-- ---- the greatest number of a run
+
+pub greatest_from : (heads : List LogHead) (n : ℕ) → n ≤ greatest_of n heads
+greatest_from [] n = omega arith
+greatest_from (h ∷ heads) n = let le = greatest_from heads (max n h.uniq) in omega (arith, le)
+
+greatest_in : (run : List OpenLog) (n : ℕ) (m : OpenLog) → In m run → m.page.uniq ≤ greatest_of n (heads_of_logs run)
+unfolding In
+greatest_in [] n m i = absurd i
+greatest_in (l ∷ run) n m i =
+    ⊎_elim (λ (e : l ≡ m). (let le = greatest_from (heads_of_logs run) (max n l.page.uniq) in let x = ap (λ (o : OpenLog). o.page.uniq) e in omega (arith, le, x))) (λ rest. greatest_in run (max n l.page.uniq) m rest) i
+
+greatest_most : (run : List OpenLog) (n most : ℕ) → n ≤ most → ((m : OpenLog) → In m run → m.page.uniq ≤ most) → greatest_of n (heads_of_logs run) ≤ most
+unfolding In
+greatest_most [] n most le all = le
+greatest_most (l ∷ run) n most le all = greatest_most run (max n l.page.uniq) most (let here = all l (inl refl) in omega (arith, le, here)) (λ m i. all m (inr i))
+
+run_numbered : (c : Config) (pages : ℕ) (run : List OpenLog) (m : OpenLog) → In m run → AreInRun pages (map (stood_of c) run) → 1 ≤ m.page.uniq
+unfolding In
+run_numbered c pages [] m i all = absurd i
+run_numbered c pages (l ∷ run) m i all = ⊎_elim (λ (e : l ≡ m). (let x = ap (λ (o : OpenLog). o.page.uniq) e in let low = all.0.uniq.0 in omega (arith, x, low))) (λ rest. run_numbered c pages run m rest all.1) i
+
 -- ---- the ring that an opening finds
 
 heads_of_run : (c : Config) (run : List OpenLog) → heads_in (map (stood_of c) run) ≡ heads_of_logs run
@@ -270,7 +314,7 @@ unfolding ring_found
 uses_are c start a run uniq backed =
     ap (λ h. (ring_of (started (log_area c) start h)).uses) (heads_of_run c run) ∙ ap (λ (x : Ring). x.uses) (found_ring (log_area c) a start run uniq backed)
 
-module _ (past : Past) (c : Config) (r : ℕ → Place) (j : ℕ → Record) (floor upto : ℕ) (log : IsLogged c r j floor upto) (start : RingStart) (a : AnchorValue) (uniq : a.uniq ≡ start.uniq) (backed : a.lasting.backed ≡ start.backed) where
+module _ (c : Config) (r : ℕ → Place) (j : ℕ → Record) (floor upto : ℕ) (log : IsLogged c r j floor upto) (start : RingStart) (a : AnchorValue) (uniq : a.uniq ≡ start.uniq) (backed : a.lasting.backed ≡ start.backed) where
   abbrev run : List OpenLog
   run = run_in (open_logs c r)
 
@@ -284,7 +328,48 @@ module _ (past : Past) (c : Config) (r : ℕ → Place) (j : ℕ → Record) (fl
       by_run (inl none) = subst (λ (x : List OpenLog). Told c (fold use_with [] x) x) (sym none.0) (none_told c)
       by_run (inr (low, high, is)) = all_told c r j floor upto log run [] [] low high (none_told c) (λ m i. absurd (in_none m i)) (λ m i. absurd (in_none m i)) is.chain is.stand
 
+  run_stands : (m : OpenLog) → In m run → Stands r (log_pages c) m.page
+  run_stands m i = by_run (run_or_none c r (log_pages c) log.orderly)
+    where
+      by_run : ((run ≡ []) × ((p : LogPage) → Stands r (log_pages c) p → ⊥)) ⊎ ((low high : ℕ) × IsRun c r (log_pages c) run low high) → Stands r (log_pages c) m.page
+      by_run (inl none) = absurd (in_none m (subst (In m) none.0 i))
+      by_run (inr (low, high, is)) = in_stand c r j floor upto log run m is.stand i
+
+  -- the current number
+  current_is : (opened c start r).files.uniq ≡ greatest_of (first_uniq start) (heads_of_logs run)
+  current_is = ap (greatest_of (first_uniq start)) (heads_of_run c run)
+
   module _ (p : LogPage) (s : Stands r (log_pages c) p) where
+    newest_opened : p.uniq ≤ (opened c start r).files.uniq
+    newest_opened = by_run (run_or_none c r (log_pages c) log.orderly)
+      where
+        by_run : ((run ≡ []) × ((q : LogPage) → Stands r (log_pages c) q → ⊥)) ⊎ ((low high : ℕ) × IsRun c r (log_pages c) run low high) → p.uniq ≤ (opened c start r).files.uniq
+        by_run (inl none) = absurd (none.1 p s)
+        by_run (inr (low, high, is)) =
+            let some = is.some in
+            let l = chain_in c r j floor upto log run low high (high - 1) is.chain (omega (arith, some)) (omega (arith, some)) in
+            let most = is.last p s in
+            let le = last_greatest c r j floor upto log l.0.page p (run_stands l.0 l.1) s (omega (arith, most, l.2.1, some)) in
+            let here = greatest_in run (first_uniq start) l.0 l.1 in
+            omega (arith, le, here, current_is)
+
+    -- a page that ends last
+    near_opened : end_of p ≡ upto → first_uniq start ≤ p.uniq + 1 → (opened c start r).files.uniq ≤ p.uniq + 1
+    near_opened end low =
+        let most = greatest_most run (first_uniq start) (p.uniq + 1) low (λ m i.
+        (let t = run_stands m i in let below = log.covers.last m.page t in let le = last_greatest c r j floor upto log p m.page s t (omega (arith, below, end)) in omega (arith, le))) in
+        omega (arith, most, current_is)
+
+    -- where a use of the current number stands, it has that number
+    last_opened : end_of p ≡ upto → (u : Use) → current_use (opened c start r).files ≡ Some u → p.uniq ≡ (opened c start r).files.uniq
+    last_opened end u is =
+        let fr = told_run.from (file_of c (opened c start r).files.uniq) u (told_run.numbered (opened c start r).files.uniq u is) in
+        let number = eqb-true u.uniq (opened c start r).files.uniq (found_passes (λ (x : Use). x.uniq == (opened c start r).files.uniq) uses u is) in
+        let t = run_stands fr.0 fr.1 in
+        let below = log.covers.last fr.0.page t in
+        let le = last_greatest c r j floor upto log p fr.0.page s t (omega (arith, below, end)) in
+        omega (arith, le, newest_opened, fr.2, number)
+
     told_above : floor < end_of p → (u : Use) × (in_file c uses (file_of c p.uniq) ≡ Some u) × (end_of p ≤ last_position u + 1)
     told_above above =
         let most = log.covers.last p s in
@@ -321,7 +406,7 @@ module _ (past : Past) (c : Config) (r : ℕ → Place) (j : ℕ → Record) (fl
               equal ∙ fr.2 ∙ number,
               elim (compare m.index p.index) [
                 | inl lt ↦
-                    (let after = log.order m p t s (sym equal) lt in
+                    (let after = log.order m p t s (inr (sym equal, lt)) in
                     let from = in_from c r j floor upto log run low high fr.0 run_is.chain fr.1 in
                     let most = run_is.last p s in
                     let some = log.orderly.some s.place p s.within s.is in
@@ -333,13 +418,78 @@ module _ (past : Past) (c : Config) (r : ℕ → Place) (j : ℕ → Record) (fl
               ],
             )
 
-  pub ready_opened : (gates : List Bool) → IsPlaced past c r → GatesAre gates r → upto ≡ start.next → IsReady past (ring_value c (opened c start r) gates) r floor j
-  ready_opened gates placed are next = record {
-    placed = placed;
-    gates = are;
-    logged = subst (IsLogged c r j floor) (let e : upto ≡ first_unwritten (opened c start r) = omega (arith, next) in e) log;
-    buffer = refl;
-    alone = λ u is. told_run.numbered (opened c start r).files.uniq u is;
-    current = λ p u s same is. current_told p s u same is;
-    told = λ p s above. told_above p s above;
-  }
+  module _ (near : IsNear c r (first_uniq start) upto) (next : upto ≡ start.next) where
+    pub ready_opened : (past : Past) (gates : List Bool) → IsPlaced past c r → GatesAre gates r → IsReady past (ring_value c (opened c start r) gates) r floor j
+    ready_opened past gates placed are = record {
+      placed = placed;
+      gates = are;
+      logged = subst (IsLogged c r j floor) (let e : upto ≡ first_unwritten (opened c start r) = omega (arith, next) in e) log;
+      buffer = refl;
+      alone = λ u is. told_run.numbered (opened c start r).files.uniq u is;
+      current = λ p u s same is. current_told p s u same is;
+      told = λ p s above. told_above p s above;
+      newest = λ p s. newest_opened p s;
+      near = subst (IsNear c r (opened c start r).files.uniq) (let e : upto ≡ first_unwritten (opened c start r) = omega (arith, next) in e) (λ p s end. near_opened p s end (near p s end));
+      last = λ p u s end is. last_opened p s (omega (arith, end, next)) u is;
+    }
+
+    -- ---- the ring is in order
+
+    -- the last page of a use
+    last_of : (file : ℕ) (u : Use) → in_file c uses file ≡ Some u → (l : OpenLog) × In l run × (l.page.uniq ≡ u.uniq) × (last_position u + 1 ≡ end_of l.page)
+    last_of file u is =
+        let fr = told_run.from file u is in
+        let t = run_stands fr.0 fr.1 in
+        let some = log.orderly.some t.place fr.0.page t.within t.is in
+        let e = ap (λ (x : LogRange). x.first + x.count - 1) fr.3 in
+        (fr.0, fr.1, fr.2, omega (arith, some, e))
+
+    module _ (config : IsConfig c) (fits : AreInRun c.log_file_pages (map (stood_of c) run)) where
+      module _ (file : ℕ) (u : Use) (is : in_file c uses file ≡ Some u) (l : OpenLog) (i : In l run) (number : l.page.uniq ≡ u.uniq) (end : end_of l.page ≡ upto) where
+        abbrev current : ℕ
+        current = (opened c start r).files.uniq
+
+        stands_in : file_of c u.uniq ≡ file
+        stands_in = eqb-true (file_of c u.uniq) file (found_passes (λ (x : Use). file_of c x.uniq == file) uses u is)
+
+        -- it is the current use
+        current_there : current ≡ l.page.uniq → is_some (numbered_in uses current) ≡ (file == file_of c current)
+        current_there same =
+            let mine = sym number ∙ sym same in
+            let any = found_any (λ (x : Use). file_of c x.uniq == file) (λ (x : Use). x.uniq == current) uses u is (ap (λ n. n == current) mine ∙ same_number current) in
+            let w = any_found (λ (x : Use). x.uniq == current) uses any in
+            let here = sym stands_in ∙ ap (file_of c) mine in
+            ap is_some w.1 ∙ sym (ap (λ n. n == file_of c current) here ∙ same_number (file_of c current))
+
+        no_greater : (o : Option Use) → numbered_in uses (l.page.uniq + 1) ≡ o → is_some o ≡ false
+        no_greater None found = refl
+        no_greater (Some w) found =
+            absurd (let fr = told_run.from (file_of c (l.page.uniq + 1)) w (told_run.numbered (l.page.uniq + 1) w found) in
+            let passes = eqb-true w.uniq (l.page.uniq + 1) (found_passes (λ (x : Use). x.uniq == l.page.uniq + 1) uses w found) in
+            let t = run_stands fr.0 fr.1 in
+            let below = log.covers.last fr.0.page t in
+            let le = last_greatest c r j floor upto log l.page fr.0.page (run_stands l i) t (omega (arith, below, end)) in
+            omega (arith, le, fr.2, passes))
+
+        -- the current use is the next one, which has no page
+        next_none : is_some (numbered_in uses (l.page.uniq + 1)) ≡ (file == file_of c (l.page.uniq + 1))
+        next_none =
+            let apart = other_file c l.page.uniq (run_numbered c c.log_file_pages run l i fits) (omega (arith, config.log_files.0)) in
+            no_greater (numbered_in uses (l.page.uniq + 1)) refl
+            ∙ sym (ne_eqb file (file_of c (l.page.uniq + 1)) (λ e. (let met = ap (λ n. n == file_of c l.page.uniq) (sym e ∙ sym stands_in ∙ ap (file_of c) (sym number)) ∙ same_number (file_of c l.page.uniq) in let clash : false ≡ true = sym apart ∙ met in cc)))
+
+        ordered : is_some (numbered_in uses current) ≡ (file == file_of c current)
+        ordered =
+            let t = run_stands l i in
+            let low = newest_opened l.page t in
+            let high = near_opened l.page t end (near l.page t end) in
+            elim (compare l.page.uniq current) [
+              | inl lt ↦ (let e : l.page.uniq + 1 ≡ current = omega (arith, lt, high) in subst (λ (n : ℕ). is_some (numbered_in uses n) ≡ (file == file_of c n)) e next_none)
+              | inr le ↦ current_there (omega (arith, le, low))
+            ]
+
+      pub order_opened : IsInOrder c (opened c start r)
+      order_opened = record {
+        ends = λ file u is. (let l = last_of file u is in let below = log.covers.last l.0.page (run_stands l.0 l.1) in let e = l.3 in omega (arith, e, below, next));
+        last = λ file u is end. (let l = last_of file u is in let e = l.3 in ordered file u is l.0 l.1 l.2 (omega (arith, e, end, next)));
+      }

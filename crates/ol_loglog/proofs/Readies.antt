@@ -11,23 +11,23 @@ use Rattle.ol_chunks.specs.Places.{log_area}
 use Rattle.ol_ports.specs.Disk.{Bytes, Past, Rest, seen}
 use Rattle.ol_ports.proofs.DiskLaws.{rest-seen}
 use Rattle.ol_log_places.specs.Places.{Bad, Closed, IsPlaced, Open, Place, place_number}
-use Rattle.ol_log_places.specs.Runs.{HoldsLog, IsLogged, StandAtPlaces, Stands, end_of, journal_at}
+use Rattle.ol_log_places.specs.Runs.{HoldsLog, IsLogged, IsNear, StandAtPlaces, Stands, end_of, journal_at}
 use Rattle.ol_log_places.specs.Writes.{GatesAre, IsFreeFile, IsNext, MayBeClosed, MayHavePage, is_in_file, with_page, without_file}
 use Rattle.ol_log_places.proofs.Files.{file_there, free_thinned, holds_file, holds_none, holds_page, places_stand, there_file}
-use Rattle.ol_log_places.proofs.Journals.{put_logged, thinned_logged}
+use Rattle.ol_log_places.proofs.Journals.{put_logged, put_near, thinned_logged}
 use Rattle.ol_log_places.proofs.WriteLaws.{file_in, with_other, with_same, without_in, without_out}
-use Rattle.ol_log_state.specs.Files.{current_use, next_page}
+use Rattle.ol_log_state.specs.Files.{current_use, log_config, next_page, ring_in}
 use Rattle.ol_log_state.specs.RingState.{RingState, buffered, page_to_write, ring_of, turned}
 use Rattle.ol_loglog.specs.RingValue.{IsInLimits, first_unwritten, flushed_state, ring_value}
 use Rattle.ol_loglog.specs.Ready.{IsNextShut, IsReady, next_file}
-use Rattle.ol_loglog.proofs.Steps.{Stepped, forms, next_is, stepped}
+use Rattle.ol_loglog.proofs.Steps.{Stepped, forms, next_is, number_between, number_form, stepped}
 
 pub ok_both : {T E : Type 0} {A B C : Type 0} (result : Result T E) → (A → B → C) → OnOk result A → OnOk result B → OnOk result C
 ok_both (Ok x) f a b = f a b
 ok_both (Err e) f a b = tt
 
-pub wider : (c : Config) (j : ℕ → Record) (need from to from2 to2 : ℕ) (d : Bytes) → from2 ≤ from → to ≤ to2 → HoldsLog c j need from to d → HoldsLog c j need from2 to2 d
-wider c j need from to from2 to2 d low high h = record { upto = h.upto; from = omega (arith, h.from, low); to = omega (arith, h.to, high); logged = h.logged }
+pub wider : (c : Config) (j : ℕ → Record) (need from to from2 to2 uniq : ℕ) (d : Bytes) → from2 ≤ from → to ≤ to2 → HoldsLog c j need from to uniq d → HoldsLog c j need from2 to2 uniq d
+wider c j need from to from2 to2 uniq d low high h = record { upto = h.upto; from = omega (arith, h.from, low); to = omega (arith, h.to, high); logged = h.logged; near = h.near }
 
 -- ---- pages that stand still where a file is closed
 
@@ -39,10 +39,18 @@ without_stands c file r n p s = record { place = s.place; within = s.within; is 
     by_file false out = sym (without_out c file r s.place out) ∙ s.is
 
 module _ (c : Config) (s : RingState) (gates : List Bool) (past : Past) (r : ℕ → Place) (floor : ℕ) (j : ℕ → Record) (ready : IsReady past (ring_value c s gates) r floor j) where
+  -- ---- the number of the next page
+
+  pub near_next : IsNear c r (next_page s.files).uniq (first_unwritten s)
+  near_next p t end = elim (number_form (log_config s.files.area) (ring_in s.files) (current_use s.files) (next_page s.files) refl) [
+    | inl same ↦ (let low = ready.near p t end in omega (arith, same, low))
+    | inr (u, is, more) ↦ (let last = ready.last p u t end is in omega (arith, more, last))
+  ]
+
   -- ---- what a stop leaves before anything is written
 
-  pub ready_holds : (total : ℕ) → first_unwritten s ≤ total → (d : Bytes) → Rest past d → HoldsLog c j floor (first_unwritten s) total d
-  ready_holds total high d rest = wider c j floor (first_unwritten s) (first_unwritten s) (first_unwritten s) total d (omega arith) high (holds_none c r j floor (first_unwritten s) d ready.logged (ready.placed.each d rest))
+  pub ready_holds : (total : ℕ) → first_unwritten s ≤ total → (d : Bytes) → Rest past d → HoldsLog c j floor (first_unwritten s) total (next_page s.files).uniq d
+  ready_holds total high d rest = wider c j floor (first_unwritten s) (first_unwritten s) (first_unwritten s) total (next_page s.files).uniq d (omega arith) high (holds_none c r j floor (first_unwritten s) (next_page s.files).uniq d ready.logged near_next (ready.placed.each d rest))
 
   -- ---- a file is closed
 
@@ -55,10 +63,13 @@ module _ (c : Config) (s : RingState) (gates : List Bool) (past : Past) (r : ℕ
     alone = ready.alone;
     current = λ p u t same is. ready.current p u (without_stands c file r (log_pages c) p t) same is;
     told = λ p t above. ready.told p (without_stands c file r (log_pages c) p t) above;
+    newest = λ p t. ready.newest p (without_stands c file r (log_pages c) p t);
+    near = λ p t end. ready.near p (without_stands c file r (log_pages c) p t) end;
+    last = λ p u t end is. ready.last p u (without_stands c file r (log_pages c) p t) end is;
   }
 
-  pub closing_holds : (file : ℕ) → IsFreeFile c floor file r → (d : Bytes) → MayBeClosed c r file d → HoldsLog c j floor (first_unwritten s) (first_unwritten s) d
-  closing_holds file free d may = holds_file c r j floor (first_unwritten s) file d free ready.logged may
+  pub closing_holds : (file : ℕ) → IsFreeFile c floor file r → (d : Bytes) → MayBeClosed c r file d → HoldsLog c j floor (first_unwritten s) (first_unwritten s) (next_page s.files).uniq d
+  closing_holds file free d may = holds_file c r j floor (first_unwritten s) (next_page s.files).uniq file d free ready.logged near_next may
 
   -- ---- the next page
 
@@ -80,6 +91,10 @@ module _ (c : Config) (s : RingState) (gates : List Bool) (past : Past) (r : ℕ
         | inr (u, is, uniq, index) ↦ (let at = ready.current q u t (same ∙ ap (file_of c) uniq) is in (at.0 ∙ sym uniq, omega (arith, at.1, index)))
       ]
 
+      -- its number is the current one, or that behind
+      number : (s.files.uniq ≤ (next_page s.files).uniq) × ((next_page s.files).uniq ≤ s.files.uniq + 1)
+      number = number_between s.files
+
       module _ (k : ℕ) (at : k ≡ place_number c (next_page s.files).uniq (next_page s.files).index) (below : (next_page s.files).index < c.log_file_pages) (within : k < log_pages c) where
         -- its place is closed
         pub closed_there : r k ≡ Closed
@@ -99,13 +114,13 @@ module _ (c : Config) (s : RingState) (gates : List Bool) (past : Past) (r : ℕ
 
         module _ (some : 0 < length s.buffer) where
           pub next_is_next : IsNext c r j k (page_to_write s)
-          next_is_next = record { within = within; shut = closed_there; some = some; agrees = ready.buffer; behind = λ q t same. behind q t same }
+          next_is_next = record { within = within; shut = closed_there; some = some; agrees = ready.buffer; behind = λ q t same. behind q t same; newest = λ q t. let le = ready.newest q t in let low = number.0 in omega (arith, le, low) }
 
           module _ (limits : IsInLimits s) where
-            pub put_holds : (d : Bytes) → MayHavePage c r k (page_to_write s) d → HoldsLog c j floor (first_unwritten s) s.next d
+            pub put_holds : (d : Bytes) → MayHavePage c r k (page_to_write s) d → HoldsLog c j floor (first_unwritten s) s.next (next_page s.files).uniq d
             put_holds d may =
-                wider c j floor (first_unwritten s) (end_of (page_to_write s)) (first_unwritten s) s.next d (omega arith) (omega (arith, limits.first))
-                (holds_page c r j floor k (page_to_write s) d next_is_next ready.logged may)
+                wider c j floor (first_unwritten s) (end_of (page_to_write s)) (first_unwritten s) s.next (next_page s.files).uniq d (omega arith) (omega (arith, limits.first))
+                (holds_page c r j floor k (page_to_write s) (next_page s.files).uniq d next_is_next ready.logged near_next (omega arith) may)
 
             either : (q : LogPage) → Stands (with_page r k (page_to_write s)) (log_pages c) q → (q ≡ page_to_write s) ⊎ Stands r (log_pages c) q
             either q t = elim (cases_eq t.place k) [
@@ -157,6 +172,10 @@ module _ (c : Config) (s : RingState) (gates : List Bool) (past : Past) (r : ℕ
                 alone = λ u is. step.alone ready.alone ∙ ap Some (is_current u is);
                 current = λ q u t same is. current_after q u t same is;
                 told = λ q t above. told_after q t above;
+                newest = λ q t. ⊎_elim (λ mine. (let e = ap (λ (p : LogPage). p.uniq) mine in omega (arith, e))) (λ old. (let le = ready.newest q old in let low = number.0 in omega (arith, le, low))) (either q t);
+                near = subst (IsNear c (with_page r k (page_to_write s)) (next_page s.files).uniq) (let e : end_of (page_to_write s) ≡ first_unwritten (turned s) = omega (arith, limits.first) in e)
+                    (put_near c r j floor k (page_to_write s) (next_page s.files).uniq next_is_next ready.logged (omega arith));
+                last = λ q u t end is. ⊎_elim (λ mine. ap (λ (p : LogPage). p.uniq) mine) (λ old. absurd (let le = ready.logged.covers.last q old in omega (arith, le, end, limits.first, some))) (either q t);
               }
 
 -- ---- nothing is buffered behind a flush
@@ -192,4 +211,7 @@ ready_buffered c s gates past r floor j rec first ready here =
       alone = ready.alone;
       current = ready.current;
       told = ready.told;
+      newest = ready.newest;
+      near = subst (IsNear c r s.files.uniq) same ready.near;
+      last = λ p u t end is. ready.last p u t (end ∙ sym same) is;
     }

@@ -9,10 +9,10 @@ use Rattle.ol_record.proofs.Filled.{buffer_from}
 use Rattle.ol_chunks.specs.Places.{log_area}
 use Rattle.ol_log_places.specs.Places.{is_of_place, place_number}
 use Rattle.ol_log_places.specs.Writes.{IsPageOf}
-use Rattle.ol_log_state.specs.Files.{current_use, next_page}
-use Rattle.ol_log_state.specs.RingState.{RingState, page_to_write, ring_of}
+use Rattle.ol_log_state.specs.Files.{next_page}
+use Rattle.ol_log_state.specs.RingState.{RingState, page_to_write}
 use Rattle.ol_loglog.specs.RingValue.{IsInLimits}
-use Rattle.ol_loglog.proofs.Steps.{next_is, number_between}
+use Rattle.ol_loglog.proofs.Steps.{number_between}
 
 of_place : (c : Config) (k : ℕ) (p : LogPage) → p.index < c.log_file_pages → k ≡ place_number c p.uniq p.index → is_of_place c k p ≡ true
 unfolding is_of_place
@@ -30,7 +30,7 @@ pub spelled : (c : Config) (s : RingState) (k : ℕ) (bytes : List ℕ) → s.fi
     → k ≡ place_number c (next_page s.files).uniq (next_page s.files).index → bytes ≡ log_page_bytes 0 (page_to_write s) → IsFilling (page_to_write s) → IsSpelled c k (page_to_write s) bytes
 spelled c s k bytes area limits low some below at is filling =
     let of = buffer_from bytes 0 (page_to_write s) filling is in
-    let between = number_between c (ring_of s) (current_use s.files) (next_page s.files) (next_is c s area) in
+    let between = number_between s.files in
     let page : IsLogPage (page_to_write s) = record {
       records = filling.records;
       some = omega (arith, some);

@@ -230,14 +230,18 @@ forms c r (Some u) page is =
       | false ↦ λ same. inr (u, refl, ap (λ (n : NextPage). n.uniq) same, ap (λ (n : NextPage). n.index) same)
     ] is
 
-pub number_between : (c : Config) (r : Ring) (o : Option Use) (page : NextPage) → page ≡ page_behind c r o → (r.uniq ≤ page.uniq) × (page.uniq ≤ r.uniq + 1)
-number_between c r None page is = let e = ap (λ (n : NextPage). n.uniq) is in (omega (arith, e), omega (arith, e))
-number_between c r (Some u) page is =
+-- its number is the current one, or the one behind where a use of the current one stands
+pub number_form : (c : Config) (r : Ring) (o : Option Use) (page : NextPage) → page ≡ page_behind c r o → (page.uniq ≡ r.uniq) ⊎ ((u : Use) × (o ≡ Some u) × (page.uniq ≡ r.uniq + 1))
+number_form c r None page is = inl (ap (λ (n : NextPage). n.uniq) is)
+number_form c r (Some u) page is =
     elim (is_closed c r u) as (λ b. page ≡ (let n : NextPage = (if b then record { uniq = r.uniq + 1; index = 0; enters = true } else record { uniq = r.uniq; index = (last_range u).index + 1; enters = false }) in n)
-    → (r.uniq ≤ page.uniq) × (page.uniq ≤ r.uniq + 1)) [
-      | true ↦ λ same. (let e = ap (λ (n : NextPage). n.uniq) same in (omega (arith, e), omega (arith, e)))
-      | false ↦ λ same. (let e = ap (λ (n : NextPage). n.uniq) same in (omega (arith, e), omega (arith, e)))
+    → (page.uniq ≡ r.uniq) ⊎ ((w : Use) × (Some u ≡ Some w) × (page.uniq ≡ r.uniq + 1))) [
+      | true ↦ λ same. inr (u, refl, ap (λ (n : NextPage). n.uniq) same)
+      | false ↦ λ same. inl (ap (λ (n : NextPage). n.uniq) same)
     ] is
+
+pub number_between : (f : Files) → (f.uniq ≤ (next_page f).uniq) × ((next_page f).uniq ≤ f.uniq + 1)
+number_between f = elim (number_form (log_config f.area) (ring_in f) (current_use f) (next_page f) refl) [ inl same ↦ (omega (arith, same), omega (arith, same)) | inr (u, is, more) ↦ (omega (arith, more), omega (arith, more)) ]
 
 room_same : (c : Config) (m : Reuse) (r : Ring) (o : Option Use) → room_after (log_config (log_area c)) m r o ≡ room_after c m r o
 room_same c m r None = refl

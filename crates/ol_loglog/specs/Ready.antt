@@ -6,7 +6,7 @@ use Rattle.ol_values.specs.declared.record.Record.{Record}
 use Rattle.ol_rules.specs.Ring.{Use, file_of, last_position, last_range, use_in_file}
 use Rattle.ol_ports.specs.Disk.{Past}
 use Rattle.ol_log_places.specs.Places.{Closed, IsPlaced, Place}
-use Rattle.ol_log_places.specs.Runs.{IsLogged, Stands, end_of, journal_at}
+use Rattle.ol_log_places.specs.Runs.{IsLogged, IsNear, Stands, end_of, journal_at}
 use Rattle.ol_log_places.specs.Writes.{GatesAre, IsFreeFile, is_in_file}
 use Rattle.ol_log_state.specs.Files.{current_use, next_page}
 use Rattle.ol_log_state.specs.RingState.{RingState, ring_of}
@@ -32,6 +32,11 @@ pub record IsReady (past : Past) (v : RingValue) (r : ℕ → Place) (floor : �
   pub current : (p : LogPage) (u : Use) → Stands r (log_pages v.config) p → file_of v.config p.uniq ≡ current_file v → current_use v.state.files ≡ Some u → (p.uniq ≡ v.state.files.uniq) × (p.index ≤ (last_range u).index)
   -- of a page that ends above floor, the use that the ring has in its file ends at or behind it
   pub told : (p : LogPage) → Stands r (log_pages v.config) p → floor < end_of p → (u : Use) × (use_in_file v.config (ring_of v.state) (file_of v.config p.uniq) ≡ Some u) × (end_of p ≤ last_position u + 1)
+  -- no page has a greater unique number than the current one, which is at most one above the last page's
+  pub newest : (p : LogPage) → Stands r (log_pages v.config) p → p.uniq ≤ v.state.files.uniq
+  pub near : IsNear v.config r v.state.files.uniq (first_unwritten v.state)
+  -- where a use of the current unique number stands in the ring, the last page has that number
+  pub last : (p : LogPage) (u : Use) → Stands r (log_pages v.config) p → end_of p ≡ first_unwritten v.state → current_use v.state.files ≡ Some u → p.uniq ≡ v.state.files.uniq
 
 -- where a record is buffered, and its page enters a file, each page there ends at or below floor
 abbrev pub IsNextFree : RingValue → (ℕ → Place) → ℕ → Type 0
@@ -47,6 +52,10 @@ IsNextShut c s r = (next_page s.files).enters ≡ true → (k : ℕ) → k < log
 pub record IsInOrder (c : Config) (s : RingState) : Type 0 where
   pub ends : (file : ℕ) (u : Use) → use_in_file c (ring_of s) file ≡ Some u → last_position u < first_unwritten s
   pub last : (file : ℕ) (u : Use) → use_in_file c (ring_of s) file ≡ Some u → last_position u + 1 ≡ first_unwritten s → is_some (current_use s.files) ≡ (file == file_of c s.files.uniq)
+
+-- the use of the next page is not backed up
+abbrev pub IsNextUnbacked : RingState → Type 0
+IsNextUnbacked s = s.reuse.backed < (next_page s.files).uniq
 
 -- the file of the next page has no use with the last written position
 abbrev pub IsNotLast : Config → RingState → Type 0

@@ -13,6 +13,7 @@ ghost use Rattle.ol_ports.specs.Stops.{Stops};
 ghost use Rattle.ol_log_places.specs.Places.{HasLog, IsPlaced, Place, in_log, place_number};
 ghost use Rattle.ol_log_places.specs.Runs.{HoldsLog};
 ghost use Rattle.ol_log_places.specs.Writes.{GatesAre, IsShutFile, MayBeClosed, is_in_file, with_page, without_file};
+ghost use Rattle.ol_log_state.specs.Files.{next_page};
 ghost use Rattle.ol_log_state.specs.RingState.{buffered, page_to_write, ring_of, turned};
 ghost use Rattle.ol_loglog.specs.RingValue.{HasRoom, IsInLimits, first_unwritten, flushed_state, logged_state, ring_value};
 ghost use Rattle.ol_loglog.specs.Ready.{IsInOrder, IsNextFree, IsNextShut, IsReady, next_file};
@@ -97,7 +98,7 @@ fn enter_file<D: Disk>(
     requires gates { length gates.old.items ≡ log_pages table.now }
     ensures count { length gates.new.items ≡ length gates.old.items }
     ensures stops { D.tells → (r : ℕ → Place) (floor : ℕ) (j : ℕ → RecordValue) → IsReady (D.past disk.old) (ring_value table.now state.now gates.old.items) r floor j → IsNextFree (ring_value table.now state.now gates.old.items) r floor
-        → Stops (D.past disk.old) (D.past disk.new) (HoldsLog table.now j floor (first_unwritten state.now) (first_unwritten state.now)) }
+        → Stops (D.past disk.old) (D.past disk.new) (HoldsLog table.now j floor (first_unwritten state.now) (first_unwritten state.now) (next_page state.now.files).uniq) }
     ensures ok { D.tells → (r : ℕ → Place) (floor : ℕ) (j : ℕ → RecordValue) → IsReady (D.past disk.old) (ring_value table.now state.now gates.old.items) r floor j → IsNextFree (ring_value table.now state.now gates.old.items) r floor
         → OnOk result ((s : ℕ → Place) × IsReady (D.past disk.new) (ring_value table.now state.now gates.new.items) s floor j × IsNextShut table.now state.now s) }
     ensures frame { D.tells → Stops (D.past disk.old) (D.past disk.new) (FramedIn (D.past disk.old) (in_log table.now)) }
@@ -134,7 +135,7 @@ fn write_buffered_page<D: Disk>(
     ensures limits { IsInLimits state.new }
     ensures count { length gates.new.items ≡ length gates.old.items }
     ensures stops { D.tells → (r : ℕ → Place) (floor : ℕ) (j : ℕ → RecordValue) → IsReady (D.past disk.old) (ring_value table.now state.old gates.old.items) r floor j → IsNextShut table.now state.old r
-        → Stops (D.past disk.old) (D.past disk.new) (HoldsLog table.now j floor (first_unwritten state.old) state.old.next) }
+        → Stops (D.past disk.old) (D.past disk.new) (HoldsLog table.now j floor (first_unwritten state.old) state.old.next (next_page state.old.files).uniq) }
     ensures ok { D.tells → (r : ℕ → Place) (floor : ℕ) (j : ℕ → RecordValue) → IsReady (D.past disk.old) (ring_value table.now state.old gates.old.items) r floor j → IsNextShut table.now state.old r
         → OnOk result ((s : ℕ → Place) × IsReady (D.past disk.new) (ring_value table.now state.new gates.new.items) s floor j) }
     ensures frame { D.tells → Stops (D.past disk.old) (D.past disk.new) (FramedIn (D.past disk.old) (in_log table.now)) }
@@ -173,7 +174,7 @@ pub(crate) fn flush_page<D: Disk>(
     ensures limits { IsInLimits state.new }
     ensures count { length gates.new.items ≡ length gates.old.items }
     ensures stops { D.tells → (r : ℕ → Place) (floor : ℕ) (j : ℕ → RecordValue) → IsReady (D.past disk.old) (ring_value table.now state.old gates.old.items) r floor j → IsNextFree (ring_value table.now state.old gates.old.items) r floor
-        → Stops (D.past disk.old) (D.past disk.new) (HoldsLog table.now j floor (first_unwritten state.old) state.old.next) }
+        → Stops (D.past disk.old) (D.past disk.new) (HoldsLog table.now j floor (first_unwritten state.old) state.old.next (next_page state.old.files).uniq) }
     ensures ok { D.tells → (r : ℕ → Place) (floor : ℕ) (j : ℕ → RecordValue) → IsReady (D.past disk.old) (ring_value table.now state.old gates.old.items) r floor j → IsNextFree (ring_value table.now state.old gates.old.items) r floor
         → OnOk result ((s : ℕ → Place) × IsReady (D.past disk.new) (ring_value table.now state.new gates.new.items) s floor j) }
     ensures frame { D.tells → Stops (D.past disk.old) (D.past disk.new) (FramedIn (D.past disk.old) (in_log table.now)) }
@@ -224,7 +225,7 @@ fn flush_full_page<D: Disk>(
     ensures limits { IsInLimits state.new }
     ensures count { length gates.new.items ≡ length gates.old.items }
     ensures stops { D.tells → (r : ℕ → Place) (floor : ℕ) (j : ℕ → RecordValue) → IsReady (D.past disk.old) (ring_value table.now state.old gates.old.items) r floor j → IsNextFree (ring_value table.now state.old gates.old.items) r floor
-        → Stops (D.past disk.old) (D.past disk.new) (HoldsLog table.now j floor (first_unwritten state.old) state.old.next) }
+        → Stops (D.past disk.old) (D.past disk.new) (HoldsLog table.now j floor (first_unwritten state.old) state.old.next (next_page state.old.files).uniq) }
     ensures ok { D.tells → (r : ℕ → Place) (floor : ℕ) (j : ℕ → RecordValue) → IsReady (D.past disk.old) (ring_value table.now state.old gates.old.items) r floor j → IsNextFree (ring_value table.now state.old gates.old.items) r floor
         → OnOk result ((s : ℕ → Place) × IsReady (D.past disk.new) (ring_value table.now state.new gates.new.items) s floor j) }
     ensures frame { D.tells → Stops (D.past disk.old) (D.past disk.new) (FramedIn (D.past disk.old) (in_log table.now)) }
@@ -261,7 +262,7 @@ pub(crate) fn append_record<D: Disk>(
     ensures limits { IsInLimits state.new }
     ensures count { length gates.new.items ≡ length gates.old.items }
     ensures stops { D.tells → (r : ℕ → Place) (floor : ℕ) (j : ℕ → RecordValue) → IsReady (D.past disk.old) (ring_value table.now state.old gates.old.items) r floor j → IsNextFree (ring_value table.now state.old gates.old.items) r floor
-        → Stops (D.past disk.old) (D.past disk.new) (HoldsLog table.now j floor (first_unwritten state.old) state.old.next) }
+        → Stops (D.past disk.old) (D.past disk.new) (HoldsLog table.now j floor (first_unwritten state.old) state.old.next (next_page state.old.files).uniq) }
     ensures ok { D.tells → (r : ℕ → Place) (floor : ℕ) (j : ℕ → RecordValue) → IsReady (D.past disk.old) (ring_value table.now state.old gates.old.items) r floor j → IsNextFree (ring_value table.now state.old gates.old.items) r floor
         → j state.old.next ≡ rec.now → OnOk result ((s : ℕ → Place) × IsReady (D.past disk.new) (ring_value table.now state.new gates.new.items) s floor j) }
     ensures frame { D.tells → Stops (D.past disk.old) (D.past disk.new) (FramedIn (D.past disk.old) (in_log table.now)) }

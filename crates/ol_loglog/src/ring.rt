@@ -16,7 +16,7 @@ ghost use Rattle.ol_ports.specs.Frames.{FramedIn, ReadsOutside};
 ghost use Rattle.ol_ports.specs.Stops.{Stops};
 ghost use Rattle.ol_log_places.specs.Places.{HasLog, Place, in_log};
 ghost use Rattle.ol_log_places.specs.Runs.{HoldsLog};
-ghost use Rattle.ol_log_state.specs.Files.{is_closed_use, told_use};
+ghost use Rattle.ol_log_state.specs.Files.{is_closed_use, next_page, told_use};
 ghost use Rattle.ol_log_state.specs.RingState.{IsNextToBack, IsStart, heads_of_logs, ring_of, started, stood_holding, switched, with_backed, with_need};
 ghost use Rattle.ol_log_state.specs.StoredFiles.{heads_in};
 ghost use Rattle.ol_log_places.specs.Heads.{IsInRun};
@@ -161,6 +161,8 @@ impl LogRing {
         ensures value { result ≡ option_map told_use (to_back_up self.now.config self.now.state.reuse (ring_of self.now.state)) }
         // It is the one that may be marked as backed up.
         ensures next { IfSome result (λ u. IsNextToBack self.now.state u.uniq) }
+        // The next page is of a later use.
+        ensures below { IfSome result (λ u. u.uniq < (next_page self.now.state.files).uniq) }
     {
         self.state.unbacked()
     }
@@ -218,9 +220,9 @@ impl LogRing {
         ensures ring { OnOk result (ring_of self.new.state ≡ logged self.old.config (ring_of self.old.state) (self.old.state.next - 1) rec.now) }
         ensures order { IsInOrder self.old.config self.old.state → OnOk result (IsInOrder self.new.config self.new.state) }
         // A stop within the call or behind it leaves the records that were written before, perhaps those that were buffered,
-        // and no others.
+        // and no others; the number of the page that was next is at most one above the last page's.
         ensures stops { D.tells → (r : ℕ → Place) (floor : ℕ) (j : ℕ → RecordValue) → IsReady (D.past disk.old) self.old r floor j → IsNextFree self.old r floor
-            → Stops (D.past disk.old) (D.past disk.new) (HoldsLog self.old.config j floor (first_unwritten self.old.state) self.old.state.next) }
+            → Stops (D.past disk.old) (D.past disk.new) (HoldsLog self.old.config j floor (first_unwritten self.old.state) self.old.state.next (next_page self.old.state.files).uniq) }
         ensures ok { D.tells → (r : ℕ → Place) (floor : ℕ) (j : ℕ → RecordValue) → IsReady (D.past disk.old) self.old r floor j → IsNextFree self.old r floor
             → j self.old.state.next ≡ rec.now → OnOk result ((s : ℕ → Place) × IsReady (D.past disk.new) self.new s floor j) }
         ensures frame { D.tells → Stops (D.past disk.old) (D.past disk.new) (FramedIn (D.past disk.old) (in_log self.old.config)) }
@@ -244,9 +246,9 @@ impl LogRing {
         ensures ring { OnOk result (ring_of self.new.state ≡ flushed self.old.config (ring_of self.old.state) (self.old.state.next - 1)) }
         ensures order { IsInOrder self.old.config self.old.state → OnOk result (IsInOrder self.new.config self.new.state) }
         // A stop within the call or behind it leaves the records that were written before, perhaps those that were buffered,
-        // and no others.
+        // and no others; the number of the page that was next is at most one above the last page's.
         ensures stops { D.tells → (r : ℕ → Place) (floor : ℕ) (j : ℕ → RecordValue) → IsReady (D.past disk.old) self.old r floor j → IsNextFree self.old r floor
-            → Stops (D.past disk.old) (D.past disk.new) (HoldsLog self.old.config j floor (first_unwritten self.old.state) self.old.state.next) }
+            → Stops (D.past disk.old) (D.past disk.new) (HoldsLog self.old.config j floor (first_unwritten self.old.state) self.old.state.next (next_page self.old.state.files).uniq) }
         ensures ok { D.tells → (r : ℕ → Place) (floor : ℕ) (j : ℕ → RecordValue) → IsReady (D.past disk.old) self.old r floor j → IsNextFree self.old r floor
             → OnOk result ((s : ℕ → Place) × IsReady (D.past disk.new) self.new s floor j) }
         ensures frame { D.tells → Stops (D.past disk.old) (D.past disk.new) (FramedIn (D.past disk.old) (in_log self.old.config)) }

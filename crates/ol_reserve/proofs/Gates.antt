@@ -5,9 +5,9 @@ use Rattle.std.proofs.lemmas.Bool.{cases_eq}
 use Rattle.std.proofs.lemmas.Bool.Decides.{nat_tests}
 use Rattle.std.proofs.lemmas.List.{get_or-drop}
 use Rattle.ol_ports.specs.Disk.{Bytes, Past, Rest, is_within, seen}
-use Rattle.ol_ports.specs.Frames.{FramedIn, IsDurable, IsSettledIn, SameBut, TornFrom}
+use Rattle.ol_ports.specs.Frames.{FramedIn, IsDurable, IsSettledIn, ReadsOutside, SameBut, TornFrom}
 use Rattle.ol_ports.proofs.DiskLaws.{rest-seen, within-behind, within-elsewhere, within-front}
-use Rattle.ol_ports.proofs.FrameLaws.{framed_wider}
+use Rattle.ol_ports.proofs.FrameLaws.{framed_wider, outside_durable}
 use Rattle.ol_reserve.specs.Anchor.{IsAnchor, anchor_bytes}
 use Rattle.ol_reserve.specs.Pair.{HasTarget, Holds, HoldsOlder, IsAbove, IsNewestAt, IsOneOf, IsReadyAt, IsShut, IsStaged, IsTarget, Newest, OtherHolds, is_pair, shut_target, target}
 use Rattle.ol_reserve.specs.declared.anchor.Anchor.{Anchor}
@@ -159,3 +159,8 @@ prepared past now t settled is = record {
 pub framed_torn : (past : Past) (page offset size : ℕ) (d : Bytes) → page < 2 → TornFrom past 0 page offset size d → FramedIn past is_pair d
 framed_torn past page offset size d pair t =
     framed_wider past (is_within 0 page offset size) (λ c p i. is_pair c p) d (λ c p i out. within-elsewhere 0 page offset size c p i (λ at same. absurd (grind (arith, nat_tests)))) t
+
+-- and all else reads as before
+pub outside_pair : (old new : Past) (page offset : ℕ) (bytes : List ℕ) → page < 2 → IsDurable old new 0 page offset bytes → ReadsOutside old new is_pair
+outside_pair old new page offset bytes pair durable =
+    outside_durable old new is_pair 0 page offset bytes durable (λ c p i out. within-elsewhere 0 page offset (length bytes) c p i (λ at same. absurd (grind (arith, nat_tests))))

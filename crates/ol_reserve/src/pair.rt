@@ -3,7 +3,7 @@
 ghost use Rattle.std.specs.Prelude.{◌≡◌, ◌<◌, ◌≤◌, ℕ, None, Option, Some, IfErr, IfOk, IsErrOf, OnOk, drop, length};
 ghost use Rattle.ol_ports.specs.Causes.{HasChunkCause};
 ghost use Rattle.ol_ports.specs.Disk.{Bytes, page_list, seen};
-ghost use Rattle.ol_ports.specs.Frames.{FramedIn};
+ghost use Rattle.ol_ports.specs.Frames.{FramedIn, ReadsOutside};
 ghost use Rattle.ol_ports.specs.Stops.{Stops};
 ghost use Rattle.ol_reserve.specs.Anchor.{IsAnchor, anchor_bytes};
 ghost use Rattle.ol_reserve.specs.Pair.{AreLow, HasFaultCause, HasTarget, IsAbove, IsAnswer, IsDamaged, IsOneOf, IsReady, IsReadyAt, IsSpelled, IsSpelledIf, IsSpoilt, IsStaged, IsTarget, IsTold, Newest, TellsPage, is_pair, serial_in, shut_target, target_in, there};
@@ -88,6 +88,7 @@ impl Pair {
         ensures ok { D.tells → (now : Option AnchorValue) → IsReady (D.past disk.old) now → IsAnchor anchor.now → IsAbove now anchor.now.serial → OnOk result (IsReady (D.past disk.new) (Some anchor.now)) }
         ensures place { D.tells → IsReady (D.past disk.old) None → IsAnchor anchor.now → OnOk result (IsReadyAt (D.past disk.new) 0 anchor.now) }
         ensures frame { D.tells → Stops (D.past disk.old) (D.past disk.new) (FramedIn (D.past disk.old) is_pair) }
+        ensures reads { D.tells → OnOk result (ReadsOutside (D.past disk.old) (D.past disk.new) is_pair) }
         ensures sizes { D.sizes disk.new ≡ D.sizes disk.old }
         ensures cause { HasChunkCause 0 (D.fault_counts disk.old) (D.fault_counts disk.new) result }
         ensures fault { IfErr result (λ fault. fault ≡ ReserveFault.DiskFault 0) }
@@ -199,6 +200,7 @@ fn put<D: Disk>(disk: &mut D, target: Target, body: &[u8]) -> Result<(), Failed>
     ensures stops { D.tells → (now : Option AnchorValue) (a : AnchorValue) → HasTarget (D.past disk.old) now target → body.now ≡ drop 1 (anchor_bytes 1 a) → IsAnchor a → IsAbove now a.serial → Stops (D.past disk.old) (D.past disk.new) (IsOneOf now (Some a)) }
     ensures ok { D.tells → (now : Option AnchorValue) (a : AnchorValue) → HasTarget (D.past disk.old) now target → body.now ≡ drop 1 (anchor_bytes 1 a) → IsAnchor a → IsAbove now a.serial → OnOk result (IsReadyAt (D.past disk.new) target.page a) }
     ensures frame { D.tells → Stops (D.past disk.old) (D.past disk.new) (FramedIn (D.past disk.old) is_pair) }
+    ensures reads { D.tells → OnOk result (ReadsOutside (D.past disk.old) (D.past disk.new) is_pair) }
     ensures sizes { D.sizes disk.new ≡ D.sizes disk.old }
     ensures cause { HasChunkCause 0 (D.fault_counts disk.old) (D.fault_counts disk.new) result }
 {
@@ -216,6 +218,7 @@ fn stage<D: Disk>(disk: &mut D, target: Target, body: &[u8]) -> Result<(), Faile
     ensures stops { D.tells → (now : Option AnchorValue) → HasTarget (D.past disk.old) now target → Stops (D.past disk.old) (D.past disk.new) (λ d. Newest d now) }
     ensures ok { D.tells → (now : Option AnchorValue) → HasTarget (D.past disk.old) now target → OnOk result (IsStaged (D.past disk.new) now target.page body.now) }
     ensures frame { D.tells → Stops (D.past disk.old) (D.past disk.new) (FramedIn (D.past disk.old) is_pair) }
+    ensures reads { D.tells → OnOk result (ReadsOutside (D.past disk.old) (D.past disk.new) is_pair) }
     ensures sizes { D.sizes disk.new ≡ D.sizes disk.old }
     ensures cause { HasChunkCause 0 (D.fault_counts disk.old) (D.fault_counts disk.new) result }
 {
@@ -232,6 +235,7 @@ fn close<D: Disk>(disk: &mut D, target: Target) -> Result<(), Failed>
     ensures stops { D.tells → (now : Option AnchorValue) → HasTarget (D.past disk.old) now target → Stops (D.past disk.old) (D.past disk.new) (λ d. Newest d now) }
     ensures ok { D.tells → (now : Option AnchorValue) → HasTarget (D.past disk.old) now target → OnOk result (HasTarget (D.past disk.new) now (shut_target target.page)) }
     ensures frame { D.tells → Stops (D.past disk.old) (D.past disk.new) (FramedIn (D.past disk.old) is_pair) }
+    ensures reads { D.tells → OnOk result (ReadsOutside (D.past disk.old) (D.past disk.new) is_pair) }
     ensures sizes { D.sizes disk.new ≡ D.sizes disk.old }
     ensures cause { HasChunkCause 0 (D.fault_counts disk.old) (D.fault_counts disk.new) result }
 {
@@ -250,6 +254,7 @@ fn write_body<D: Disk>(disk: &mut D, page: u32, body: &[u8]) -> Result<(), Faile
     ensures stops { D.tells → (now : Option AnchorValue) → HasTarget (D.past disk.old) now (shut_target page) → Stops (D.past disk.old) (D.past disk.new) (λ d. Newest d now) }
     ensures ok { D.tells → (now : Option AnchorValue) → HasTarget (D.past disk.old) now (shut_target page) → OnOk result (IsStaged (D.past disk.new) now page body.now) }
     ensures frame { D.tells → Stops (D.past disk.old) (D.past disk.new) (FramedIn (D.past disk.old) is_pair) }
+    ensures reads { D.tells → OnOk result (ReadsOutside (D.past disk.old) (D.past disk.new) is_pair) }
     ensures sizes { D.sizes disk.new ≡ D.sizes disk.old }
     ensures cause { HasChunkCause 0 (D.fault_counts disk.old) (D.fault_counts disk.new) result }
 {
@@ -263,6 +268,7 @@ fn open<D: Disk>(disk: &mut D, page: u32) -> Result<(), Failed>
     ensures stops { D.tells → (now : Option AnchorValue) (a : AnchorValue) → IsStaged (D.past disk.old) now page (drop 1 (anchor_bytes 1 a)) → IsAnchor a → IsAbove now a.serial → Stops (D.past disk.old) (D.past disk.new) (IsOneOf now (Some a)) }
     ensures ok { D.tells → (now : Option AnchorValue) (a : AnchorValue) → IsStaged (D.past disk.old) now page (drop 1 (anchor_bytes 1 a)) → IsAnchor a → IsAbove now a.serial → OnOk result (IsReadyAt (D.past disk.new) page a) }
     ensures frame { D.tells → Stops (D.past disk.old) (D.past disk.new) (FramedIn (D.past disk.old) is_pair) }
+    ensures reads { D.tells → OnOk result (ReadsOutside (D.past disk.old) (D.past disk.new) is_pair) }
     ensures sizes { D.sizes disk.new ≡ D.sizes disk.old }
     ensures cause { HasChunkCause 0 (D.fault_counts disk.old) (D.fault_counts disk.new) result }
 {

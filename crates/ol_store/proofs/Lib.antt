@@ -1,10 +1,10 @@
 mod CutLaws
 mod EntryLaws
 mod EntrySteps
-mod HoldLaws
+pub mod HoldLaws
 mod WriteLaws
-mod ApartLaws
-mod ChangeLaws
+pub mod ApartLaws
+pub mod ChangeLaws
 mod CheckpointSteps
 mod LoadLaws
 mod LoopSteps

@@ -3,6 +3,7 @@ use Rattle.std.proofs.lemmas.Result.{on_ok_weaker}
 use Rattle.ol_ports.specs.Disk.{Bytes}
 use Rattle.ol_ports.proofs.FrameLaws.{framed_none, outside_both, outside_none}
 use Rattle.ol_ports.proofs.StopLaws.{stops_both, stops_framed, stops_none, stops_weaker}
+use Rattle.ol_log_state.specs.Files.{next_page}
 use Rattle.ol_loglog.specs.RingValue.{first_unwritten}
 use Rattle.ol_loglog.proofs.Readies.{ready_holds, wider}
 use Rattle.ol_loglog.proofs.pages.flush_page.Goals as goal
@@ -21,7 +22,7 @@ returns-in-Ok-clause-stops g c tells r floor j ready free =
     let s = c.args.state.now in
     let next = c.in-Ok.ensures.ok tells r floor j ready free in
     stops_both _ _ _ _
-    (stops_weaker _ _ _ _ (λ (d : Bytes) h. wider c.args.table.now j floor (first_unwritten s) (first_unwritten s) (first_unwritten s) s.next d (omega arith) (omega arith) h) (c.in-Ok.ensures.stops tells r floor j ready free))
+    (stops_weaker _ _ _ _ (λ (d : Bytes) h. wider c.args.table.now j floor (first_unwritten s) (first_unwritten s) (first_unwritten s) s.next (next_page s.files).uniq d (omega arith) (omega arith) h) (c.in-Ok.ensures.stops tells r floor j ready free))
     (c.write_buffered_page.ensures.stops tells next.0 floor j next.1 next.2)
 
 pub returns-in-Ok-clause-ok : goal.returns-in-Ok-clause-ok
@@ -38,4 +39,4 @@ returns-in-Ok-clause-reads g c tells = on_ok_weaker c.write_buffered_page.result
 pub returns-in-Err-clause-stops : goal.returns-in-Err-clause-stops
 returns-in-Err-clause-stops g c tells r floor j ready free =
     let s = c.args.state.now in
-    stops_weaker _ _ _ _ (λ (d : Bytes) h. wider c.args.table.now j floor (first_unwritten s) (first_unwritten s) (first_unwritten s) s.next d (omega arith) (omega arith) h) (c.in-Err.ensures.stops tells r floor j ready free)
+    stops_weaker _ _ _ _ (λ (d : Bytes) h. wider c.args.table.now j floor (first_unwritten s) (first_unwritten s) (first_unwritten s) s.next (next_page s.files).uniq d (omega arith) (omega arith) h) (c.in-Err.ensures.stops tells r floor j ready free)

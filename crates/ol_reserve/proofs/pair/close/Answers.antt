@@ -1,8 +1,8 @@
 use Rattle.std.proofs.Common.{subst}
-use Rattle.ol_ports.proofs.FrameLaws.{framed_none}
+use Rattle.ol_ports.proofs.FrameLaws.{framed_none, outside_none}
 use Rattle.ol_ports.proofs.StopLaws.{stops_none, stops_weaker}
 use Rattle.ol_reserve.specs.Pair.{HasTarget, is_pair, target}
-use Rattle.ol_reserve.proofs.Gates.{closed, closing, framed_torn, newest_of}
+use Rattle.ol_reserve.proofs.Gates.{closed, closing, framed_torn, newest_of, outside_pair}
 use Rattle.ol_reserve.proofs.Results.{on_ok}
 use Rattle.ol_reserve.proofs.pair.close.Goals as goal
 
@@ -28,3 +28,9 @@ returns-else-target-clause-ok g c tells now ready =
 
 pub returns-else-target-clause-frame : goal.returns-else-target-clause-frame
 returns-else-target-clause-frame g c tells = stops_none _ _ (λ d rest. framed_none _ (λ c p i. is_pair c p) d rest)
+
+pub returns-then-target-clause-reads : goal.returns-then-target-clause-reads
+returns-then-target-clause-reads g c tells = on_ok c.write_synced.result (λ durable. outside_pair _ _ c.args.target.page 0 _ c.requires.pair durable) (c.write_synced.ensures.ok tells)
+
+pub returns-else-target-clause-reads : goal.returns-else-target-clause-reads
+returns-else-target-clause-reads g c tells = outside_none _ _

@@ -1,6 +1,8 @@
 use Rattle.std.proofs.Common.{inl, subst}
 use Rattle.ol_ports.proofs.StopLaws.{stops_both, stops_framed, stops_weaker}
 use Rattle.ol_reserve.specs.Pair.{IsStaged}
+use Rattle.ol_ports.proofs.FrameLaws.{outside_both}
+use Rattle.ol_reserve.proofs.Results.{on_ok}
 use Rattle.ol_reserve.proofs.pair.put.Goals as goal
 
 pub returns-in-Ok-clause-stops : goal.returns-in-Ok-clause-stops
@@ -13,3 +15,6 @@ returns-in-Err-clause-stops g c tells now a ready body is above = stops_weaker _
 
 pub returns-in-Ok-clause-frame : goal.returns-in-Ok-clause-frame
 returns-in-Ok-clause-frame g c tells = stops_framed _ _ _ _ (c.in-Ok.ensures.frame tells) (c.open.ensures.frame tells)
+
+pub returns-in-Ok-clause-reads : goal.returns-in-Ok-clause-reads
+returns-in-Ok-clause-reads g c tells = on_ok c.open.result (λ reads. outside_both _ _ _ _ (c.in-Ok.ensures.reads tells) reads) (c.open.ensures.reads tells)

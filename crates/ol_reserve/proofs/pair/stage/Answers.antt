@@ -1,4 +1,6 @@
 use Rattle.ol_ports.proofs.StopLaws.{stops_both, stops_framed}
+use Rattle.ol_ports.proofs.FrameLaws.{outside_both}
+use Rattle.ol_reserve.proofs.Results.{on_ok}
 use Rattle.ol_reserve.proofs.pair.stage.Goals as goal
 
 pub returns-in-Ok-clause-stops : goal.returns-in-Ok-clause-stops
@@ -6,3 +8,6 @@ returns-in-Ok-clause-stops g c tells now ready = stops_both _ _ _ _ (c.close.ens
 
 pub returns-in-Ok-clause-frame : goal.returns-in-Ok-clause-frame
 returns-in-Ok-clause-frame g c tells = stops_framed _ _ _ _ (c.in-Ok.ensures.frame tells) (c.write_body.ensures.frame tells)
+
+pub returns-in-Ok-clause-reads : goal.returns-in-Ok-clause-reads
+returns-in-Ok-clause-reads g c tells = on_ok c.write_body.result (λ reads. outside_both _ _ _ _ (c.in-Ok.ensures.reads tells) reads) (c.write_body.ensures.reads tells)

@@ -1,6 +1,6 @@
 use Rattle.std.proofs.Common.{None, Some, ap, arith, drop, inl, subst, sym, ◌∙◌, ◌≡◌, ℕ}
 use Rattle.ol_ports.specs.Disk.{Past, Rest}
-use Rattle.ol_ports.specs.Frames.{FramedIn}
+use Rattle.ol_ports.specs.Frames.{FramedIn, ReadsOutside}
 use Rattle.ol_ports.specs.Stops.{Stops}
 use Rattle.ol_ports.proofs.FrameLaws.{framed_none}
 use Rattle.ol_ports.proofs.StopLaws.{stops_none}
@@ -49,3 +49,7 @@ returns-in-Err-clause-stops g c tells now ready is above =
 pub returns-in-Err-clause-frame : goal.returns-in-Err-clause-frame
 returns-in-Err-clause-frame g c tells =
     subst (λ (p : Past). Stops (g.D.Disk.past c.args.disk.now) p (FramedIn (g.D.Disk.past c.args.disk.now) is_pair)) (sym (c.find_target.ensures.past tells)) (stops_none _ _ (λ d rest. framed_none _ (λ k p i. is_pair k p) d rest))
+
+pub returns-in-Ok-put-clause-reads : goal.returns-in-Ok-put-clause-reads
+returns-in-Ok-put-clause-reads g c tells =
+    subst (λ (p : Past). ReadsOutside p (g.D.Disk.past c.put.new.disk) is_pair) (c.find_target.ensures.past tells) (c.in-Ok-put.ensures.reads tells)
