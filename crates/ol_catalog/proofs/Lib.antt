@@ -1,0 +1,4 @@
+pub mod Feeding
+pub mod Joins
+pub mod Places
+pub mod Streams

@@ -1,0 +1,9 @@
+pub mod BadLaws
+pub mod CodeLaws
+pub mod HeaderLaws
+pub mod ObjectLaws
+pub mod OutsideLaws
+pub mod PlaceLaws
+pub mod ScanLaws
+pub mod StepLaws
+pub mod Streams

@@ -1,0 +1,11 @@
+pub mod Lists
+pub mod CountingLaws
+pub mod ArchiveLaws
+pub mod ChainLaws
+pub mod LogLaws
+pub mod PairLaws
+pub mod LinkLaws
+pub mod TakenLaws
+pub mod PlaceLaws
+pub mod DamageLaws
+pub mod PlanLaws
