@@ -1,0 +1,10 @@
+pub mod Records
+pub mod Parts
+pub mod Agreeing
+pub mod Images
+pub mod LogSteps
+pub mod Causes
+pub mod PageSteps
+pub mod ChangeCalls
+pub mod RedoCalls
+pub mod Checkpoints

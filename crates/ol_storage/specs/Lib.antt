@@ -1,0 +1,5 @@
+pub mod Behind
+pub mod Installation
+pub mod Standing
+pub mod Storing
+pub mod Causes
