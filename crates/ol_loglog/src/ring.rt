@@ -79,6 +79,14 @@ impl LogRing {
         })
     }
 
+    /// The configuration of the installation.
+    pub fn table(&self) -> &ChunkTable
+        ensures value { result.now ≡ self.now.config }
+        ensures ring { IsLogRing self.now }
+    {
+        &self.table
+    }
+
     /// Where the log files stand on the disk, which has to have all these pages when it is lent to the ring.
     pub fn area(&self) -> Area
         ensures { result ≡ log_area self.now.config }

@@ -1,6 +1,6 @@
 -- Why calls on the parts of an installation failed, as the storage tells it.
 use Rattle.std.specs.Prelude.{Err, nat_le, nat_lt, true, ℕ, ◌&&◌, ◌*◌, ◌+◌, ◌<◌, ◌==◌, ◌≡◌}
-use Rattle.std.proofs.Common.{arith, refl}
+use Rattle.std.proofs.Common.{arith, refl, subst}
 use Rattle.std.proofs.lemmas.Bool.{and_from, and_parts}
 use Rattle.std.proofs.lemmas.Bool.Decides.{nat_tests}
 use Rattle.ol_values.specs.Config.{Config}
@@ -10,6 +10,8 @@ use Rattle.ol_chunks.specs.Places.{chunk_pages, lies_in, log_area}
 use Rattle.ol_chunks.specs.Places.Part.{Logs}
 use Rattle.ol_chunks.specs.declared.table.Area.{Area}
 use Rattle.ol_ports.specs.Causes.{HasChunkCause}
+use Rattle.ol_store.specs.Causes.{HasStoreCause}
+use Rattle.ol_store.specs.declared.store.StoreFault.TheVariants.{Failed as StoreFailed}
 use Rattle.ol_storage.specs.Causes.{HasStorageCause}
 use Rattle.ol_storage.specs.declared.storage.StorageFault.TheVariants.{Failed}
 
@@ -33,6 +35,12 @@ log_failed c is before now e cause = record {
   failed = λ same. ((log_area c).chunk, log_chunk c is, record { later = cause.later (log_area c).chunk; rose = cause.failed; others = cause.others });
   kept = λ none. absurd (none refl);
 }
+
+-- a call on the pages failed
+pub store_failed : {T U : Type 0} (c d : Config) → c ≡ d → (before now : ℕ → ℕ) → HasStoreCause {T = T} c before now (Err StoreFailed) → HasStorageCause {T = U} d before now (Err Failed)
+store_failed {T} {U} c d same before now cause =
+    let here : HasStorageCause {T = U} c before now (Err Failed) = record { later = cause.later; failed = λ is. cause.failed refl; kept = λ none. absurd (none refl) } in
+    subst (λ (k : Config). HasStorageCause {T = U} k before now (Err Failed)) same here
 
 -- a call on the anchor pair failed
 pub pair_failed : {T U E : Type 0} (c : Config) → IsConfig c → (before now : ℕ → ℕ) (e : E) → HasChunkCause {T = T} 0 before now (Err e) → HasStorageCause {T = U} c before now (Err Failed)

@@ -103,7 +103,7 @@ pub store_call_stops : (old new : Past) (v : Installation) (g : Behind) → Know
 store_call_stops old new v g known is frame holds =
     stops_weaker old new _ _
     (λ d s. stands_wider (config_of v) g v.anchor (flushed_of v) (flushed_of v) (flushed_of v) (last_of v) d (omega arith) (omega arith) s)
-    (store_stops v known.going known.ring.config (omega (arith, known.ring.limits.first)) old new g is.anchor is.log
+    (store_stops v known.going known.ring.config old new g is.anchor is.log is.checkpoint is.written
     (subst (λ (c : Config). Stops old new (FramedIn old (in_store c))) known.going.config frame)
     (subst (λ (c : Config). Stops old new (HoldsPages c v.anchor.generation (pages_of v.anchor g))) known.going.config
     (subst (λ (n : ℕ). Stops old new (HoldsPages v.store.config n (pages_of v.anchor g))) known.going.generation holds)))
@@ -114,7 +114,7 @@ pub append_call_stops : (mid new : Past) (v : Installation) (t : Store) (g : Beh
     → ((r : ℕ → Place) (floor : ℕ) (j : ℕ → Record) → IsReady mid v.ring r floor j → IsNextFree v.ring r floor → Stops mid new (HoldsLog v.ring.config j floor (first_unwritten v.ring.state) v.ring.state.next (next_number v)))
     → Stops mid new (StandsFrom (config_of v) g v.anchor (flushed_of v) (last_of v))
 append_call_stops mid new v t g rid row stamp known room is on_disk frame stops =
-    ring_stops_by mid new (with_store v t) g known room is.anchor is.log
+    ring_stops_by mid new (with_store v t) g known room is.anchor is.log is.checkpoint is.written
     (λ d f. held_agree (config_of v) v.anchor.generation (changed (pages_of v.anchor g) rid row stamp) (pages_of v.anchor g) d (λ space page up. up) refl
     (pages_beside mid (with_store v t) (changed (pages_of v.anchor g) rid row stamp) known on_disk (in_log (config_of v)) (λ chunk page in_it. store_not_log (config_of v) known.ring.config chunk page in_it) d f))
     frame stops

@@ -26,7 +26,7 @@ use Rattle.ol_store.specs.Pages.{checkpointed}
 use Rattle.ol_store.specs.Stores.{Store, checkpointed_of, with_log}
 use Rattle.ol_storage.specs.Behind.{Behind, pages_of, record_at}
 use Rattle.ol_storage.specs.Installation.{Installation, IsGoing, flushed, with_store, checkpoint_anchor, config_of, flushed_of, last_of, moved}
-use Rattle.ol_storage.specs.Standing.{StandsBetween, StandsFrom, first_number}
+use Rattle.ol_storage.specs.Standing.{IsAnchorOf, StandsBetween, StandsFrom, first_number}
 use Rattle.ol_storage.specs.Storing.{IsStored}
 use Rattle.ol_storage.proofs.Agreeing.{held_agree, stored_agree}
 use Rattle.ol_storage.proofs.Images.{Known, stands_wider, log_beside, next_number, number_low, pages_beside, ring_beside, stands_up_to, store_config, stored_beside}
@@ -34,55 +34,65 @@ use Rattle.ol_storage.proofs.LogSteps.{flushed_first, log_raised}
 use Rattle.ol_storage.proofs.Parts.{anchor_framed, is_pair_at, log_not_pair, log_not_store, pair_not_store, store_not_pair}
 
 -- the next anchor
-abbrev pub next_anchor : Installation → ℕ → Anchor
-next_anchor v need = checkpoint_anchor v.anchor v.reached need v.ring.state.files.uniq
+abbrev pub next_anchor : Installation → ℕ → ℕ → Anchor
+next_anchor v need archive = checkpoint_anchor v.anchor v.reached need archive v.ring.state.files.uniq
 
 -- all pages as they are become those at the checkpoint
-saved_next : (v : Installation) (g : Behind) (need : ℕ) → v.reached ≡ g.reached → (pages_of (next_anchor v need) g).saved ≡ (checkpointed (pages_of v.anchor g)).saved
-saved_next v g need reached = ap (λ (n : ℕ). λ (space page : ℕ). page_behind g.start (upto g.start g.records n) space page) reached
+saved_next : (v : Installation) (g : Behind) (need archive : ℕ) → v.reached ≡ g.reached → (pages_of (next_anchor v need archive) g).saved ≡ (checkpointed (pages_of v.anchor g)).saved
+saved_next v g need archive reached = ap (λ (n : ℕ). λ (space page : ℕ). page_behind g.start (upto g.start g.records n) space page) reached
 
 -- an opening that finds it begins with no greater number
-next_low : (v : Installation) (need : ℕ) → IsGoing v → first_number (next_anchor v need) ≤ next_number v
-next_low v need is =
+next_low : (v : Installation) (need archive : ℕ) → IsGoing v → first_number (next_anchor v need archive) ≤ next_number v
+next_low v need archive is =
     let backed : v.anchor.backed ≡ v.ring.state.reuse.backed = sym (ap (λ (m : Reuse). m.backed) is.reuse) in
     omega (arith, backed, is.unbacked, (number_between v.ring.state.files).0)
 
-module _ (v : Installation) (known : Known v) (g : Behind) (need : ℕ) (more : v.anchor.need ≤ need) (old : Past) (is : IsStored old v g) where
-  long : 0 < first_unwritten v.ring.state
-  long = omega (arith, known.ring.limits.first)
+module _ (v : Installation) (known : Known v) (g : Behind) (need archive : ℕ) (more : v.anchor.need ≤ need) (old : Past) (is : IsStored old v g) where
+  -- the next anchor is that of a checkpoint
+  next_anchor_of : need ≡ low_behind g.start (upto g.start g.records g.reached) → IsAnchorOf (config_of v) g (next_anchor v need archive)
+  next_anchor_of least = record {
+    online = is.checkpoint.online;
+    text = is.checkpoint.text;
+    from = omega (arith, is.reached, is.behind.from);
+    to = omega (arith, is.reached);
+    need = least ∙ ap (λ (n : ℕ). low_behind g.start (upto g.start g.records n)) (sym is.reached);
+  }
+
+  next_written : v.ring.state.buffer ≡ [] → v.reached < first_unwritten v.ring.state
+  next_written none = omega (arith, known.going.reached, ap length none)
 
   -- the pages for the next generation, where all stand at their places
-  later : v.store.pool.dirty ≡ [] → HasNoMark v.store.written → v.anchor.generation + 1 < 2 ^ 64 → (d : Bytes) → FramedIn old is_pair d → HoldsPages (config_of v) (v.anchor.generation + 1) (pages_of (next_anchor v need) g) d
+  later : v.store.pool.dirty ≡ [] → HasNoMark v.store.written → v.anchor.generation + 1 < 2 ^ 64 → (d : Bytes) → FramedIn old is_pair d → HoldsPages (config_of v) (v.anchor.generation + 1) (pages_of (next_anchor v need archive) g) d
   later clean synced small d f =
-      held_agree (config_of v) (v.anchor.generation + 1) (checkpointed (pages_of v.anchor g)) (pages_of (next_anchor v need) g) d (λ space page up. up) (saved_next v g need is.reached)
+      held_agree (config_of v) (v.anchor.generation + 1) (checkpointed (pages_of v.anchor g)) (pages_of (next_anchor v need archive) g) d (λ space page up. up) (saved_next v g need archive is.reached)
       (subst (λ (c : Config). HoldsPages c (v.anchor.generation + 1) (checkpointed (pages_of v.anchor g)) d) known.going.config
       (later_holds v.store.config (store_config v known) (λ chunk page i. is_pair chunk page)
       (λ chunk page i in_it. store_not_pair v.store.config (store_config v known) chunk page in_it)
       v.store.pool v.store.log v.store.written (pages_of v.anchor g) known.area old (v.anchor.generation + 1) is.pages.on_disk clean synced (omega (arith, known.going.generation)) small d f))
 
   -- a stop within the write of the anchor, or behind it
-  pub anchor_stops : (mid : Past) → v.store.pool.dirty ≡ [] → HasNoMark v.store.written → v.anchor.generation + 1 < 2 ^ 64 → Stops old mid (FramedIn old is_pair) → Stops old mid (IsOneOf (Some v.anchor) (Some (next_anchor v need)))
-      → Stops old mid (StandsBetween (config_of v) g v.anchor (next_anchor v need) (flushed_of v) (flushed_of v))
-  anchor_stops mid clean synced small frame newest =
+  pub anchor_stops : (mid : Past) → need ≡ low_behind g.start (upto g.start g.records g.reached) → v.ring.state.buffer ≡ [] → v.store.pool.dirty ≡ [] → HasNoMark v.store.written → v.anchor.generation + 1 < 2 ^ 64 → Stops old mid (FramedIn old is_pair) → Stops old mid (IsOneOf (Some v.anchor) (Some (next_anchor v need archive)))
+      → Stops old mid (StandsBetween (config_of v) g v.anchor (next_anchor v need archive) (flushed_of v) (flushed_of v))
+  anchor_stops mid least none clean synced small frame newest =
       stops_weaker old mid _ _
       (λ d both. let log = log_beside old v g is.log is_pair (λ chunk page in_it. log_not_pair (config_of v) known.ring.config chunk page in_it) d both.0 in
       ⊎_elim
-      (λ one. inl (stands_up_to (config_of v) g v.anchor is.log.floor (first_unwritten v.ring.state) (first_unwritten v.ring.state) (next_number v) d long is.log.low (number_low v known.going) one
+      (λ one. inl (stands_up_to (config_of v) g v.anchor is.log.floor (first_unwritten v.ring.state) (first_unwritten v.ring.state) (next_number v) d is.checkpoint is.written is.log.low (number_low v known.going) one
       (pages_beside old v (pages_of v.anchor g) known is.pages.on_disk is_pair (λ chunk page in_it. store_not_pair (config_of v) known.ring.config chunk page in_it) d both.0) log))
-      (λ other. inr (stands_up_to (config_of v) g (next_anchor v need) is.log.floor (first_unwritten v.ring.state) (first_unwritten v.ring.state) (next_number v) d long (omega (arith, is.log.low, more)) (next_low v need known.going) other
+      (λ other. inr (stands_up_to (config_of v) g (next_anchor v need archive) is.log.floor (first_unwritten v.ring.state) (first_unwritten v.ring.state) (next_number v) d (next_anchor_of least) (next_written none) (omega (arith, is.log.low, more)) (next_low v need archive known.going) other
       (later clean synced small d both.0) log))
       both.1)
-      (stops_with old mid (FramedIn old is_pair) (IsOneOf (Some v.anchor) (Some (next_anchor v need))) frame newest)
+      (stops_with old mid (FramedIn old is_pair) (IsOneOf (Some v.anchor) (Some (next_anchor v need archive))) frame newest)
 
   -- and within the closing of the entries' gates
-  pub empty_stops : (mid new : Past) → ((d : Bytes) → DiskRest mid d → FramedIn old is_pair d) → IsReady mid (Some (next_anchor v need)) → Stops mid new (FramedIn mid (in_store (config_of v))) → Stops mid new (HoldsPages (config_of v) (v.anchor.generation + 1) (checkpointed (pages_of v.anchor g)))
-      → Stops mid new (StandsFrom (config_of v) g (next_anchor v need) (flushed_of v) (flushed_of v))
-  empty_stops mid new behind ready frame holds =
+  pub empty_stops : (mid new : Past) → need ≡ low_behind g.start (upto g.start g.records g.reached) → v.ring.state.buffer ≡ [] → ((d : Bytes) → DiskRest mid d → FramedIn old is_pair d) → IsReady mid (Some (next_anchor v need archive)) → Stops mid new (FramedIn mid (in_store (config_of v))) → Stops mid new (HoldsPages (config_of v) (v.anchor.generation + 1) (checkpointed (pages_of v.anchor g)))
+      → Stops mid new (StandsFrom (config_of v) g (next_anchor v need archive) (flushed_of v) (flushed_of v))
+  empty_stops mid new least none behind ready frame holds =
       let log = ring_beside old mid v g is.log is_pair (λ chunk page in_it. log_not_pair (config_of v) known.ring.config chunk page in_it) behind in
       stops_weaker mid new _ _
-      (λ d both. stands_up_to (config_of v) g (next_anchor v need) log.floor (first_unwritten v.ring.state) (first_unwritten v.ring.state) (next_number v) d long (omega (arith, log.low, more)) (next_low v need known.going)
-      (anchor_framed mid (next_anchor v need) (in_store (config_of v)) (λ chunk page pair. pair_not_store (config_of v) known.ring.config chunk page pair) ready d both.0)
-      (held_agree (config_of v) (v.anchor.generation + 1) (checkpointed (pages_of v.anchor g)) (pages_of (next_anchor v need) g) d (λ space page up. up) (saved_next v g need is.reached) both.1)
+      (λ d both. stands_up_to (config_of v) g (next_anchor v need archive) log.floor (first_unwritten v.ring.state) (first_unwritten v.ring.state) (next_number v) d (next_anchor_of least) (next_written none) (omega (arith, log.low, more)) (next_low v need archive known.going)
+      (anchor_framed mid (next_anchor v need archive) (in_store (config_of v)) (λ chunk page pair. pair_not_store (config_of v) known.ring.config chunk page pair) ready d both.0)
+      (held_agree (config_of v) (v.anchor.generation + 1) (checkpointed (pages_of v.anchor g)) (pages_of (next_anchor v need archive) g) d (λ space page up. up) (saved_next v g need archive is.reached) both.1)
       (log_beside mid v g log (in_store (config_of v)) (λ chunk page in_it. log_not_store (config_of v) known.ring.config chunk page in_it) d both.0))
       (stops_with mid new (FramedIn mid (in_store (config_of v))) (HoldsPages (config_of v) (v.anchor.generation + 1) (checkpointed (pages_of v.anchor g))) frame holds)
 
@@ -91,8 +101,8 @@ module _ (v : Installation) (known : Known v) (g : Behind) (need : ℕ) (more : 
   pages_behind mid behind reads = stored_beside old mid v (pages_of v.anchor g) known is_pair (λ chunk page in_it. store_not_pair (config_of v) known.ring.config chunk page in_it) behind reads is.pages.on_disk
 
   -- behind both
-  pub moved_stored : (mid new : Past) → need ≡ low_behind g.start (upto g.start g.records g.reached) → v.ring.state.buffer ≡ [] → ((d : Bytes) → DiskRest mid d → FramedIn old is_pair d) → IsReady mid (Some (next_anchor v need)) → ((d : Bytes) → DiskRest new d → FramedIn mid (in_store (config_of v)) d)
-      → IsOnDisk new (with_log v.store (emptied v.store.log (v.anchor.generation + 1))) (checkpointed (pages_of v.anchor g)) → IsStored new (moved v need) g
+  pub moved_stored : (mid new : Past) → need ≡ low_behind g.start (upto g.start g.records g.reached) → v.ring.state.buffer ≡ [] → ((d : Bytes) → DiskRest mid d → FramedIn old is_pair d) → IsReady mid (Some (next_anchor v need archive)) → ((d : Bytes) → DiskRest new d → FramedIn mid (in_store (config_of v)) d)
+      → IsOnDisk new (with_log v.store (emptied v.store.log (v.anchor.generation + 1))) (checkpointed (pages_of v.anchor g)) → IsStored new (moved v need archive) g
   moved_stored mid new least none behind ready frame on_disk =
       let middle = ring_beside old mid v g is.log is_pair (λ chunk page in_it. log_not_pair (config_of v) known.ring.config chunk page in_it) behind in
       let log = ring_beside mid new v g middle (in_store (config_of v)) (λ chunk page in_it. log_not_store (config_of v) known.ring.config chunk page in_it) frame in
@@ -101,25 +111,19 @@ module _ (v : Installation) (known : Known v) (g : Behind) (need : ℕ) (more : 
         behind = is.behind;
         reached = is.reached;
         next = is.next;
-        checkpoint = record {
-          online = is.checkpoint.online;
-          text = is.checkpoint.text;
-          from = omega (arith, is.reached, is.behind.from);
-          to = omega (arith, is.reached);
-          need = least ∙ ap (λ (n : ℕ). low_behind g.start (upto g.start g.records n)) (sym is.reached);
-        };
-        written = omega (arith, known.going.reached, ap length none);
-        anchor = ready_kept mid new (in_store (config_of v)) (Some (next_anchor v need)) (λ page below. pair_not_store (config_of v) known.ring.config 0 page (is_pair_at page below)) frame ready;
-        log = log_raised new v (moved v need) g log.floor log.places (omega (arith, log.low, more)) refl (ready_need new v.ring log.places log.floor need (record_at g) log.ready) (order_need v.ring.config v.ring.state need log.order);
+        checkpoint = next_anchor_of least;
+        written = next_written none;
+        anchor = ready_kept mid new (in_store (config_of v)) (Some (next_anchor v need archive)) (λ page below. pair_not_store (config_of v) known.ring.config 0 page (is_pair_at page below)) frame ready;
+        log = log_raised new v (moved v need archive) g log.floor log.places (omega (arith, log.low, more)) refl (ready_need new v.ring log.places log.floor need (record_at g) log.ready) (order_need v.ring.config v.ring.state need log.order);
         pages = record {
-          on_disk = stored_agree new v.store.config v.store.pool (emptied v.store.log (v.anchor.generation + 1)) v.store.written (checkpointed (pages_of v.anchor g)) (pages_of (next_anchor v need) g)
-              (record { up = λ space page up. up; now = λ space page up. refl; saved = saved_next v g need is.reached }) on_disk;
+          on_disk = stored_agree new v.store.config v.store.pool (emptied v.store.log (v.anchor.generation + 1)) v.store.written (checkpointed (pages_of v.anchor g)) (pages_of (next_anchor v need archive) g)
+              (record { up = λ space page up. up; now = λ space page up. refl; saved = saved_next v g need archive is.reached }) on_disk;
           flushed = is.pages.flushed;
         };
       }
 
-pub moved_going : (v : Installation) (need : ℕ) → IsAnchor (next_anchor v need) → IsGoing v → IsGoing (moved v need)
-moved_going v need anchor is = record {
+pub moved_going : (v : Installation) (need archive : ℕ) → IsAnchor (next_anchor v need archive) → IsGoing v → IsGoing (moved v need archive)
+moved_going v need archive anchor is = record {
   config = is.config;
   generation = refl;
   reuse = ap (λ (m : Reuse). let r : Reuse = record { backed = m.backed; need = need } in r) is.reuse;
@@ -132,10 +136,10 @@ moved_going v need anchor is = record {
 }
 
 -- numbers that stay within limits make an anchor again
-pub next_is_anchor : (a : Anchor) (position need uniq : ℕ) → a.serial < 2 ^ 62 → a.generation < 2 ^ 62 → position ≤ 2 ^ 62 → need ≤ 2 ^ 62 → uniq ≤ 2 ^ 62 → IsAnchor a → IsAnchor (checkpoint_anchor a position need uniq)
-next_is_anchor a position need uniq serial generation at least number is = record {
+pub next_is_anchor : (a : Anchor) (position need archive uniq : ℕ) → a.serial < 2 ^ 62 → a.generation < 2 ^ 62 → position ≤ 2 ^ 62 → need ≤ 2 ^ 62 → archive ≤ 2 ^ 62 → uniq ≤ 2 ^ 62 → IsAnchor a → IsAnchor (checkpoint_anchor a position need archive uniq)
+next_is_anchor a position need archive uniq serial generation at least named number is = record {
   state = is.state;
-  numbers = grind (arith, nat_tests, serial, generation, at, least, number, is.numbers);
+  numbers = grind (arith, nat_tests, serial, generation, at, least, named, number, is.numbers);
   downs = is.downs;
   zeros = is.zeros;
   ones = is.ones;
@@ -145,12 +149,12 @@ next_is_anchor a position need uniq serial generation at least number is = recor
   short = is.short;
 }
 
-pub moved_is : (v : Installation) (need uniq : ℕ) (ring : RingValue) (store : Store) → ring ≡ ring_value v.ring.config (with_need need v.ring.state) v.ring.gates → store ≡ with_log v.store (emptied v.store.log (v.anchor.generation + 1)) → uniq ≡ v.ring.state.files.uniq
-    → (let x : Installation = record { ring = ring; store = store; anchor = checkpoint_anchor v.anchor v.reached need uniq; reached = v.reached; stopped = v.stopped } in x ≡ moved v need)
-moved_is v need uniq ring store one two three =
-    ap (λ (r : RingValue). let x : Installation = record { ring = r; store = store; anchor = checkpoint_anchor v.anchor v.reached need uniq; reached = v.reached; stopped = v.stopped } in x) one
-    ∙ ap (λ (s : Store). let x : Installation = record { ring = ring_value v.ring.config (with_need need v.ring.state) v.ring.gates; store = s; anchor = checkpoint_anchor v.anchor v.reached need uniq; reached = v.reached; stopped = v.stopped } in x) two
-    ∙ ap (λ (n : ℕ). let x : Installation = record { ring = ring_value v.ring.config (with_need need v.ring.state) v.ring.gates; store = with_log v.store (emptied v.store.log (v.anchor.generation + 1)); anchor = checkpoint_anchor v.anchor v.reached need n; reached = v.reached; stopped = v.stopped } in x) three
+pub moved_is : (v : Installation) (need archive uniq : ℕ) (ring : RingValue) (store : Store) → ring ≡ ring_value v.ring.config (with_need need v.ring.state) v.ring.gates → store ≡ with_log v.store (emptied v.store.log (v.anchor.generation + 1)) → uniq ≡ v.ring.state.files.uniq
+    → (let x : Installation = record { ring = ring; store = store; anchor = checkpoint_anchor v.anchor v.reached need archive uniq; reached = v.reached; stopped = v.stopped } in x ≡ moved v need archive)
+moved_is v need archive uniq ring store one two three =
+    ap (λ (r : RingValue). let x : Installation = record { ring = r; store = store; anchor = checkpoint_anchor v.anchor v.reached need archive uniq; reached = v.reached; stopped = v.stopped } in x) one
+    ∙ ap (λ (s : Store). let x : Installation = record { ring = ring_value v.ring.config (with_need need v.ring.state) v.ring.gates; store = s; anchor = checkpoint_anchor v.anchor v.reached need archive uniq; reached = v.reached; stopped = v.stopped } in x) two
+    ∙ ap (λ (n : ℕ). let x : Installation = record { ring = ring_value v.ring.config (with_need need v.ring.state) v.ring.gates; store = with_log v.store (emptied v.store.log (v.anchor.generation + 1)); anchor = checkpoint_anchor v.anchor v.reached need archive n; reached = v.reached; stopped = v.stopped } in x) three
 
 -- ---- a whole checkpoint
 
@@ -163,13 +167,13 @@ pub none_marked : (v : Installation) (s : Store) → v.store ≡ checkpointed_of
 none_marked v s is chunk = ap (λ (t : Store). slice_index_or t.written chunk false) is ∙ no_mark 31 chunk
 
 -- what a stop leaves behind the flush and the pages, said of the state before
-pub moved_wider : (v w : Installation) (t : Store) (gates : List Bool) (need : ℕ) (g : Behind) (d : Bytes) → w ≡ with_store (flushed v gates) t → StandsBetween (config_of w) g w.anchor (moved w need).anchor (flushed_of w) (flushed_of w) d
-    → StandsBetween (config_of v) g v.anchor (moved (with_store (flushed v gates) t) need).anchor (flushed_of v) (last_of v) d
-moved_wider v w t gates need g d is s =
+pub moved_wider : (v w : Installation) (t : Store) (gates : List Bool) (need archive : ℕ) (g : Behind) (d : Bytes) → w ≡ with_store (flushed v gates) t → StandsBetween (config_of w) g w.anchor (moved w need archive).anchor (flushed_of w) (flushed_of w) d
+    → StandsBetween (config_of v) g v.anchor (moved (with_store (flushed v gates) t) need archive).anchor (flushed_of v) (last_of v) d
+moved_wider v w t gates need archive g d is s =
     let u = with_store (flushed v gates) t in
     let from : flushed_of v ≤ flushed_of u = omega (arith, (flushed_first v.ring.state).0) in
     let to : flushed_of u ≤ last_of v = omega (arith, (flushed_first v.ring.state).1) in
     ⊎_elim
     (λ one. inl (stands_wider (config_of v) g v.anchor (flushed_of u) (flushed_of u) (flushed_of v) (last_of v) d from to one))
-    (λ other. inr (stands_wider (config_of v) g (moved u need).anchor (flushed_of u) (flushed_of u) (flushed_of v) (last_of v) d from to other))
-    (subst (λ (x : Installation). StandsBetween (config_of x) g x.anchor (moved x need).anchor (flushed_of x) (flushed_of x) d) is s)
+    (λ other. inr (stands_wider (config_of v) g (moved u need archive).anchor (flushed_of u) (flushed_of u) (flushed_of v) (last_of v) d from to other))
+    (subst (λ (x : Installation). StandsBetween (config_of x) g x.anchor (moved x need archive).anchor (flushed_of x) (flushed_of x) d) is s)

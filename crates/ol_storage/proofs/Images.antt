@@ -26,7 +26,7 @@ use Rattle.ol_store.specs.Holding.{HoldsPages, IsOnDisk, in_store}
 use Rattle.ol_store.specs.Pages.{Pages}
 use Rattle.ol_storage.specs.Behind.{Behind, pages_of, record_at}
 use Rattle.ol_storage.specs.Installation.{Installation, IsGoing, config_of, flushed_of, last_of}
-use Rattle.ol_storage.specs.Standing.{StandsFrom, first_number}
+use Rattle.ol_storage.specs.Standing.{IsAnchorOf, StandsFrom, first_number}
 use Rattle.ol_storage.specs.Storing.{IsLogStored}
 use Rattle.ol_storage.proofs.Parts.{anchor_framed, log_not_store, pair_not_log, pair_not_store}
 
@@ -104,16 +104,18 @@ ring_beside old new v g l is_part apart frame = record {
 -- ---- the log's own calls, and those of the store
 
 -- an image that holds the log up to some position stands for the records up to that
-pub stands_up_to : (c : Config) (g : Behind) (a : Anchor) (floor from to uniq : ℕ) (d : Bytes) → 0 < from → floor ≤ a.need → first_number a ≤ uniq → Newest d (Some a) → HoldsPages c a.generation (pages_of a g) d → HoldsLog c (record_at g) floor from to uniq d → StandsFrom c g a (from - 1) (to - 1) d
-stands_up_to c g a floor from to uniq d some low below newest pages h = record {
+pub stands_up_to : (c : Config) (g : Behind) (a : Anchor) (floor from to uniq : ℕ) (d : Bytes) → IsAnchorOf c g a → a.position < from → floor ≤ a.need → first_number a ≤ uniq → Newest d (Some a) → HoldsPages c a.generation (pages_of a g) d → HoldsLog c (record_at g) floor from to uniq d → StandsFrom c g a (from - 1) (to - 1) d
+stands_up_to c g a floor from to uniq d checkpoint written low below newest pages h = record {
   last = h.upto - 1;
   from = omega (arith, h.from);
   to = omega (arith, h.to);
   stands = record {
     newest = newest;
+    checkpoint = checkpoint;
+    position = omega (arith, written, h.from);
     pages = pages;
-    log = subst (λ (n : ℕ). IsLogged c (places c d) (record_at g) a.need n) (omega (arith, some, h.from)) (logged_higher c (places c d) (record_at g) floor a.need h.upto low h.logged);
-    near = λ p stands ends. omega (arith, below, h.near p stands (ends ∙ omega (arith, some, h.from)));
+    log = subst (λ (n : ℕ). IsLogged c (places c d) (record_at g) a.need n) (omega (arith, written, h.from)) (logged_higher c (places c d) (record_at g) floor a.need h.upto low h.logged);
+    near = λ p stands ends. omega (arith, below, h.near p stands (ends ∙ omega (arith, written, h.from)));
   };
 }
 
@@ -121,12 +123,12 @@ stands_up_to c g a floor from to uniq d some low below newest pages h = record {
 pub stands_wider : (c : Config) (g : Behind) (a : Anchor) (from to from2 to2 : ℕ) (d : Bytes) → from2 ≤ from → to ≤ to2 → StandsFrom c g a from to d → StandsFrom c g a from2 to2 d
 stands_wider c g a from to from2 to2 d low high s = record { last = s.last; from = omega (arith, s.from, low); to = omega (arith, s.to, high); stands = s.stands }
 
-module _ (v : Installation) (going : IsGoing v) (config : IsConfig (config_of v)) (long : 0 < first_unwritten v.ring.state) (old new : Past) (g : Behind) (ready : IsReady old (Some v.anchor)) (l : IsLogStored old v g) where
+module _ (v : Installation) (going : IsGoing v) (config : IsConfig (config_of v)) (old new : Past) (g : Behind) (ready : IsReady old (Some v.anchor)) (l : IsLogStored old v g) (checkpoint : IsAnchorOf (config_of v) g v.anchor) (written : v.anchor.position < first_unwritten v.ring.state) where
   pub log_stops : ((d : Bytes) → FramedIn old (in_log (config_of v)) d → HoldsPages (config_of v) v.anchor.generation (pages_of v.anchor g) d) → Stops old new (FramedIn old (in_log (config_of v)))
       → Stops old new (HoldsLog (config_of v) (record_at g) l.floor (first_unwritten v.ring.state) v.ring.state.next (next_number v)) → Stops old new (StandsFrom (config_of v) g v.anchor (flushed_of v) (last_of v))
   log_stops pages frame holds =
       stops_weaker old new _ _
-      (λ d both. stands_up_to (config_of v) g v.anchor l.floor (first_unwritten v.ring.state) v.ring.state.next (next_number v) d long l.low (number_low v going)
+      (λ d both. stands_up_to (config_of v) g v.anchor l.floor (first_unwritten v.ring.state) v.ring.state.next (next_number v) d checkpoint written l.low (number_low v going)
       (anchor_framed old v.anchor (in_log (config_of v)) (λ chunk page pair. pair_not_log (config_of v) config chunk page pair) ready d both.0)
       (pages d both.0)
       both.1)
@@ -136,7 +138,7 @@ module _ (v : Installation) (going : IsGoing v) (config : IsConfig (config_of v)
       → Stops old new (StandsFrom (config_of v) g v.anchor (flushed_of v) (flushed_of v))
   store_stops frame holds =
       stops_weaker old new _ _
-      (λ d both. stands_up_to (config_of v) g v.anchor l.floor (first_unwritten v.ring.state) (first_unwritten v.ring.state) (next_number v) d long l.low (number_low v going)
+      (λ d both. stands_up_to (config_of v) g v.anchor l.floor (first_unwritten v.ring.state) (first_unwritten v.ring.state) (next_number v) d checkpoint written l.low (number_low v going)
       (anchor_framed old v.anchor (in_store (config_of v)) (λ chunk page pair. pair_not_store (config_of v) config chunk page pair) ready d both.0)
       both.1
       (log_beside old v g l (in_store (config_of v)) (λ chunk page in_it. log_not_store (config_of v) config chunk page in_it) d both.0))

@@ -8,3 +8,7 @@ pub mod PageSteps
 pub mod ChangeCalls
 pub mod RedoCalls
 pub mod Checkpoints
+pub mod Anchors
+pub mod Quiet
+pub mod Lifting
+pub mod Lists

@@ -186,19 +186,19 @@ log_going v w s more reached goes config state below is =
     })
 
 -- a stop within an append or a flush, or behind it
-pub ring_stops_by : (old new : Past) (v : Installation) (g : Behind) → Known v → HasRoom v.ring.config v.ring.state → IsAnchorReady old (Some v.anchor) → (l : IsLogStored old v g) → ((d : Bytes) → FramedIn old (in_log (config_of v)) d → HoldsPages (config_of v) v.anchor.generation (pages_of v.anchor g) d)
+pub ring_stops_by : (old new : Past) (v : Installation) (g : Behind) → Known v → HasRoom v.ring.config v.ring.state → IsAnchorReady old (Some v.anchor) → (l : IsLogStored old v g) → IsAnchorOf (config_of v) g v.anchor → v.anchor.position < first_unwritten v.ring.state → ((d : Bytes) → FramedIn old (in_log (config_of v)) d → HoldsPages (config_of v) v.anchor.generation (pages_of v.anchor g) d)
     → Stops old new (FramedIn old (in_log (config_of v)))
     → ((r : ℕ → Place) (floor : ℕ) (j : ℕ → Record) → IsReady old v.ring r floor j → IsNextFree v.ring r floor → Stops old new (HoldsLog v.ring.config j floor (first_unwritten v.ring.state) v.ring.state.next (next_number v)))
     → Stops old new (StandsFrom (config_of v) g v.anchor (flushed_of v) (last_of v))
-ring_stops_by old new v g known room anchor l pages frame stops =
-    log_stops v known.going known.ring.config (omega (arith, known.ring.limits.first)) old new g anchor l pages frame
+ring_stops_by old new v g known room anchor l checkpoint written pages frame stops =
+    log_stops v known.going known.ring.config old new g anchor l checkpoint written pages frame
     (stops l.places l.floor (record_at g) l.ready (room_free old v.ring l.places l.floor (record_at g) l.ready l.is_floor known.ring l.order room))
 
 pub ring_stops : (old new : Past) (v : Installation) (g : Behind) → Known v → HasRoom v.ring.config v.ring.state → (is : IsStored old v g) → Stops old new (FramedIn old (in_log (config_of v)))
     → ((r : ℕ → Place) (floor : ℕ) (j : ℕ → Record) → IsReady old v.ring r floor j → IsNextFree v.ring r floor → Stops old new (HoldsLog v.ring.config j floor (first_unwritten v.ring.state) v.ring.state.next (next_number v)))
     → Stops old new (StandsFrom (config_of v) g v.anchor (flushed_of v) (last_of v))
 ring_stops old new v g known room is frame stops =
-    ring_stops_by old new v g known room is.anchor is.log
+    ring_stops_by old new v g known room is.anchor is.log is.checkpoint is.written
     (λ d f. pages_beside old v (pages_of v.anchor g) known is.pages.on_disk (in_log (config_of v)) (λ chunk page in_it. store_not_log (config_of v) known.ring.config chunk page in_it) d f)
     frame stops
 

@@ -3,3 +3,5 @@ pub mod Installation
 pub mod Standing
 pub mod Storing
 pub mod Causes
+pub mod Journals
+pub mod Operations

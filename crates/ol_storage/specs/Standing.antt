@@ -22,9 +22,11 @@ pub record IsAnchorOf (c : Config) (g : Behind) (a : Anchor) : Type 0 where
 abbrev pub first_number : Anchor → ℕ
 first_number a = max a.uniq (a.backed + 1)
 
--- an image of the disk: this anchor is the newest, each page of a space that is up, overlaid with its counting entry, is as at the checkpoint, and the log pages hold the records from the need on to the last, and nothing behind it; the number that an opening begins with is at most one above the last page's
+-- an image of the disk: this anchor is the newest, of a checkpoint at or before the last position; each page of a space that is up, overlaid with its counting entry, is as at the checkpoint, and the log pages hold the records from the need on to the last, and nothing behind it; the number that an opening begins with is at most one above the last page's
 pub record Stands (c : Config) (g : Behind) (a : Anchor) (last : ℕ) (d : Bytes) : Type 0 where
   pub newest : Newest d (Some a)
+  pub checkpoint : IsAnchorOf c g a
+  pub position : a.position ≤ last
   pub pages : HoldsPages c a.generation (pages_of a g) d
   pub log : IsLogged c (places c d) (record_at g) a.need (last + 1)
   pub near : IsNear c (places c d) (first_number a) (last + 1)

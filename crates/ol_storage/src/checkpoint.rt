@@ -19,17 +19,19 @@ use ol_reserve::Pair;
 impl<D: Disk> Storage<D> {
     /// Makes a checkpoint: flushes the log, writes and syncs all changed pages, writes the anchor with the position up to which
     /// the pages have the records and the next generation of the physical log, and closes the gates of its entries. `need` is
-    /// the least number of a transaction that is open at that position, else the one behind it.
+    /// the least number of a transaction that is open at that position, else the one behind it. `next_archive` is the number of
+    /// the next archive from then on, which an archive raises as it begins.
     ///
     /// `Failed` comes only where the count of faults of a chunk rose, and is the only refusal.
-    pub fn checkpoint(&mut self, need: u64) -> Result<(), StorageFault>
+    pub fn checkpoint(&mut self, need: u64, next_archive: u64) -> Result<(), StorageFault>
         requires going { self.old.now.stopped ≡ false }
         requires need { (self.old.now.anchor.need ≤ need) × (need ≤ self.old.now.reached + 1) }
         requires room { HasRoom self.old.now.ring.config self.old.now.ring.state }
         requires low { (self.old.now.ring.state.files.uniq < 2 ^ 62) × (self.old.now.anchor.serial < 2 ^ 62) × (self.old.now.anchor.generation < 2 ^ 62) }
-        ensures step { OnOk result (self.new.now ≡ checkpointed self.old.now need self.new.now.ring.gates) }
+        requires archive { next_archive ≤ 2 ^ 62 }
+        ensures step { OnOk result (self.new.now ≡ checkpointed self.old.now need next_archive self.new.now.ring.gates) }
         ensures stops { D.tells → (g : Behind) → IsStored (D.past self.old.disk) self.old.now g → need ≡ low_behind g.start (upto g.start g.records g.reached)
-            → Stops (D.past self.old.disk) (D.past self.new.disk) (StandsBetween (config_of self.old.now) g self.old.now.anchor (checkpointed self.old.now need []).anchor (flushed_of self.old.now) (last_of self.old.now)) }
+            → Stops (D.past self.old.disk) (D.past self.new.disk) (StandsBetween (config_of self.old.now) g self.old.now.anchor (checkpointed self.old.now need next_archive []).anchor (flushed_of self.old.now) (last_of self.old.now)) }
         ensures stored { D.tells → (g : Behind) → IsStored (D.past self.old.disk) self.old.now g → need ≡ low_behind g.start (upto g.start g.records g.reached) → OnOk result (IsStored (D.past self.new.disk) self.new.now g) }
         ensures stopped { OnErr result (self.new.now.stopped ≡ true) }
         ensures cause { HasStorageCause (config_of self.old.now) (D.fault_counts self.old.disk) (D.fault_counts self.new.disk) result }
@@ -39,7 +41,7 @@ impl<D: Disk> Storage<D> {
             Err(fault) => return Err(fault),
         }
         match self.write_pages() {
-            Ok(()) => self.move_checkpoint(need),
+            Ok(()) => self.move_checkpoint(need, next_archive),
             Err(fault) => Err(fault),
         }
     }
@@ -67,16 +69,17 @@ impl<D: Disk> Storage<D> {
 
     // Writes the anchor of a checkpoint, and begins a new generation of the physical log. All records are flushed, no page is
     // dirty, and all that was written is synced.
-    fn move_checkpoint(&mut self, need: u64) -> Result<(), StorageFault>
+    fn move_checkpoint(&mut self, need: u64, next_archive: u64) -> Result<(), StorageFault>
         requires going { self.old.now.stopped ≡ false }
         requires need { (self.old.now.anchor.need ≤ need) × (need ≤ self.old.now.reached + 1) }
         requires flushed { self.old.now.ring.state.buffer ≡ [] }
         requires clean { self.old.now.store.pool.dirty ≡ [] }
         requires synced { HasNoMark self.old.now.store.written }
         requires low { (self.old.now.anchor.serial < 2 ^ 62) × (self.old.now.anchor.generation < 2 ^ 62) }
-        ensures step { OnOk result (self.new.now ≡ moved self.old.now need) }
-        ensures stops { D.tells → (g : Behind) → IsStored (D.past self.old.disk) self.old.now g
-            → Stops (D.past self.old.disk) (D.past self.new.disk) (StandsBetween (config_of self.old.now) g self.old.now.anchor (moved self.old.now need).anchor (flushed_of self.old.now) (flushed_of self.old.now)) }
+        requires archive { next_archive ≤ 2 ^ 62 }
+        ensures step { OnOk result (self.new.now ≡ moved self.old.now need next_archive) }
+        ensures stops { D.tells → (g : Behind) → IsStored (D.past self.old.disk) self.old.now g → need ≡ low_behind g.start (upto g.start g.records g.reached)
+            → Stops (D.past self.old.disk) (D.past self.new.disk) (StandsBetween (config_of self.old.now) g self.old.now.anchor (moved self.old.now need next_archive).anchor (flushed_of self.old.now) (flushed_of self.old.now)) }
         ensures stored { D.tells → (g : Behind) → IsStored (D.past self.old.disk) self.old.now g → need ≡ low_behind g.start (upto g.start g.records g.reached) → OnOk result (IsStored (D.past self.new.disk) self.new.now g) }
         ensures stopped { OnErr result (self.new.now.stopped ≡ true) }
         ensures cause { HasStorageCause (config_of self.old.now) (D.fault_counts self.old.disk) (D.fault_counts self.new.disk) result }
@@ -91,6 +94,7 @@ impl<D: Disk> Storage<D> {
         self.anchor.generation += 1;
         self.anchor.position = self.reached;
         self.anchor.need = need;
+        self.anchor.next_archive = next_archive;
         self.anchor.uniq = self.ring.uniq();
         match Pair::write(&mut self.disk, &self.anchor) {
             Ok(()) => {}

@@ -4,9 +4,16 @@
 
 mod checkpoint;
 mod clean;
+mod lasting;
+mod laws;
 mod logging;
+mod operations;
 mod pages;
+mod reading;
 mod redo;
 mod storage;
 
+pub use lasting::Lasting;
+pub use laws::image_stands_for_the_journal;
+pub use operations::Operation;
 pub use storage::{Storage, StorageFault};

@@ -1,14 +1,15 @@
 //! The log of a storage: records are appended and flushed.
 
-ghost use Rattle.std.specs.Prelude.{◌≡◌, ◌<◌, ◌+◌, ◌^◌, OnOk, OnErr, true, false, ℕ};
+ghost use Rattle.std.specs.Prelude.{◌≡◌, ◌<◌, ◌+◌, ◌^◌, [], OnOk, OnErr, true, false, ℕ};
 ghost use Rattle.ol_values.specs.Spelling.{KeepsRules};
+ghost use Rattle.ol_log_state.specs.RingState.{switched};
 ghost use Rattle.ol_ports.specs.Stops.{Stops};
 ghost use Rattle.ol_loglog.specs.RingValue.{HasRoom};
 ghost use Rattle.ol_store.specs.Stores.{AreFlushed};
 ghost use Rattle.ol_storage.specs.Behind.{Behind, TouchesNone, with_record};
 ghost use Rattle.ol_storage.specs.Behind.{last_of as last_behind};
 ghost use Rattle.ol_storage.specs.Causes.{HasStorageCause};
-ghost use Rattle.ol_storage.specs.Installation.{appended, config_of, flushed, flushed_of, last_of};
+ghost use Rattle.ol_storage.specs.Installation.{appended, closed, config_of, flushed, flushed_of, last_of, with_ring};
 ghost use Rattle.ol_storage.specs.Standing.{StandsFrom};
 ghost use Rattle.ol_storage.specs.Storing.{IsStored};
 
@@ -75,5 +76,38 @@ impl<D: Disk> Storage<D> {
                 Err(StorageFault::Failed)
             }
         }
+    }
+
+    /// Writes the buffered records, and closes the current log file: the next page begins the next file.
+    ///
+    /// `Failed` comes only where the count of faults of a chunk rose, and is the only refusal.
+    pub fn switch(&mut self) -> Result<(), StorageFault>
+        requires going { self.old.now.stopped ≡ false }
+        requires room { HasRoom self.old.now.ring.config self.old.now.ring.state }
+        requires low { self.old.now.ring.state.files.uniq < 2 ^ 62 }
+        ensures step { OnOk result (self.new.now ≡ closed self.old.now self.new.now.ring.gates) }
+        ensures stops { D.tells → (g : Behind) → IsStored (D.past self.old.disk) self.old.now g → Stops (D.past self.old.disk) (D.past self.new.disk) (StandsFrom (config_of self.old.now) g self.old.now.anchor (flushed_of self.old.now) (last_of self.old.now)) }
+        ensures stored { D.tells → (g : Behind) → IsStored (D.past self.old.disk) self.old.now g → OnOk result (IsStored (D.past self.new.disk) self.new.now g) }
+        ensures stopped { OnErr result (self.new.now.stopped ≡ true) }
+        ensures cause { HasStorageCause (config_of self.old.now) (D.fault_counts self.old.disk) (D.fault_counts self.new.disk) result }
+    {
+        match self.flush() {
+            Ok(()) => {
+                self.close_file();
+                Ok(())
+            }
+            Err(fault) => Err(fault),
+        }
+    }
+
+    // Closes the current log file. No record is buffered.
+    fn close_file(&mut self)
+        requires going { self.old.now.stopped ≡ false }
+        requires flushed { self.old.now.ring.state.buffer ≡ [] }
+        ensures disk { self.new.disk ≡ self.old.disk }
+        ensures step { self.new.now ≡ with_ring self.old.now (switched self.old.now.ring.state) self.old.now.ring.gates }
+        ensures stored { D.tells → (g : Behind) → IsStored (D.past self.old.disk) self.old.now g → IsStored (D.past self.new.disk) self.new.now g }
+    {
+        self.ring.switch();
     }
 }

@@ -66,6 +66,41 @@ impl<D: Disk> Storage<D> {
         }
     }
 
+    /// The log ring, to be asked without the disk.
+    pub fn log(&self) -> &LogRing
+        ensures { result.now ≡ self.now.now.ring }
+    {
+        &self.ring
+    }
+
+    /// The page store, to be asked without the disk.
+    pub fn pages(&self) -> &Store
+        ensures { result.now ≡ self.now.now.store }
+    {
+        &self.store
+    }
+
+    /// The newest anchor.
+    pub fn anchor(&self) -> &Anchor
+        ensures { result.now ≡ self.now.now.anchor }
+    {
+        &self.anchor
+    }
+
+    /// The position up to which the pages have the records.
+    pub fn reached(&self) -> u64
+        ensures { result ≡ self.now.now.reached }
+    {
+        self.reached
+    }
+
+    /// Whether a call of the disk has failed, so that none may follow.
+    pub fn is_stopped(&self) -> bool
+        ensures { result ≡ self.now.now.stopped }
+    {
+        self.stopped
+    }
+
     /// Hands the disk back.
     pub fn close(self) -> D
         ensures { result ≡ self.disk }

@@ -28,4 +28,4 @@ returns-in-Ok-write_pages-clause-stops g c tells b is least =
     stops_both _ (g.D.Disk.past c.flush.new.self.disk) _ _ (stops_weaker _ _ _ _ (λ d s. inl s) (c.flush.ensures.stops tells b is))
     (stops_both _ (g.D.Disk.past c.write_pages.new.self.disk) _ _
     (stops_weaker _ _ _ _ (λ d s. inl (flushed_wider c.args.self.now.now c.flush.new.self.now c.flush.new.self.now.ring.gates b d c.in-Ok.ensures.step s)) (c.write_pages.ensures.stops tells b held))
-    (stops_weaker _ _ _ _ (λ d s. moved_wider c.args.self.now.now c.write_pages.new.self.now (checkpointed_of c.flush.new.self.now.store) c.flush.new.self.now.ring.gates c.args.need b d whole s) (c.move_checkpoint.ensures.stops tells b (c.in-Ok-write_pages.ensures.stored tells b held))))
+    (stops_weaker _ _ _ _ (λ d s. moved_wider c.args.self.now.now c.write_pages.new.self.now (checkpointed_of c.flush.new.self.now.store) c.flush.new.self.now.ring.gates c.args.need c.args.next_archive b d whole s) (c.move_checkpoint.ensures.stops tells b (c.in-Ok-write_pages.ensures.stored tells b held) least)))

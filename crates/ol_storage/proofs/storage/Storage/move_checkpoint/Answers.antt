@@ -37,11 +37,11 @@ returns-in-Err-clause-stops g c =
     let synced : HasNoMark v.store.written = subst (λ (h : Held _). HasNoMark h.now.store.written) (sym c.self.view_is) c.requires.synced in
     let low = subst (λ (h : Held _). (h.now.anchor.serial < 2 ^ 62) × (h.now.anchor.generation < 2 ^ 62)) (sym c.self.view_is) c.requires.low in
     let small : v.anchor.generation + 1 < 2 ^ 64 = omega (arith, low.1) in
-    let same : checkpoint_anchor c.self.inside.anchor c.self.inside.reached c.args.need c.uniq-self-inside.result ≡ next_anchor v c.args.need = ap (λ (n : ℕ). checkpoint_anchor c.self.inside.anchor c.self.inside.reached c.args.need n) c.uniq-self-inside.ensures in
-    let anchor : IsAnchor (next_anchor v c.args.need) = next_is_anchor c.self.inside.anchor c.self.inside.reached c.args.need c.self.inside.ring.state.files.uniq low.0 low.1 (omega (arith, known.going.reached, known.ring.limits.next)) (omega (arith, most, known.going.reached, known.ring.limits.next)) known.ring.limits.uniq.1 known.going.anchor in
-    subst (λ (h : Held _). g.D.Disk.tells → (b : Behind) → IsStored (g.D.Disk.past h.disk) h.now b → Stops (g.D.Disk.past h.disk) (g.D.Disk.past c.write.new.disk) (StandsBetween (config_of h.now) b h.now.anchor (moved h.now c.args.need).anchor (flushed_of h.now) (flushed_of h.now))) c.self.view_is (λ tells b is.
+    let same : checkpoint_anchor c.self.inside.anchor c.self.inside.reached c.args.need c.args.next_archive c.uniq-self-inside.result ≡ next_anchor v c.args.need c.args.next_archive = ap (λ (n : ℕ). checkpoint_anchor c.self.inside.anchor c.self.inside.reached c.args.need c.args.next_archive n) c.uniq-self-inside.ensures in
+    let anchor : IsAnchor (next_anchor v c.args.need c.args.next_archive) = next_is_anchor c.self.inside.anchor c.self.inside.reached c.args.need c.args.next_archive c.self.inside.ring.state.files.uniq low.0 low.1 (omega (arith, known.going.reached, known.ring.limits.next)) (omega (arith, most, known.going.reached, known.ring.limits.next)) c.requires.archive known.ring.limits.uniq.1 known.going.anchor in
+    subst (λ (h : Held _). g.D.Disk.tells → (b : Behind) → IsStored (g.D.Disk.past h.disk) h.now b → c.args.need ≡ low_behind b.start (upto b.start b.records b.reached) → Stops (g.D.Disk.past h.disk) (g.D.Disk.past c.write.new.disk) (StandsBetween (config_of h.now) b h.now.anchor (moved h.now c.args.need c.args.next_archive).anchor (flushed_of h.now) (flushed_of h.now))) c.self.view_is (λ tells b is least.
     let newest = subst (λ (a : Anchor). IsAnchor a → IsAbove (Some c.self.inside.anchor) a.serial → Stops (g.D.Disk.past c.self.inside.disk) (g.D.Disk.past c.write.new.disk) (IsOneOf (Some c.self.inside.anchor) (Some a))) same (λ fits above. c.write.ensures.stops tells (Some c.self.inside.anchor) is.anchor fits above) anchor (omega arith) in
-    let begun = anchor_stops v known b c.args.need need (g.D.Disk.past c.self.inside.disk) is (g.D.Disk.past c.write.new.disk) clean synced small (c.write.ensures.frame tells) newest in
+    let begun = anchor_stops v known b c.args.need c.args.next_archive need (g.D.Disk.past c.self.inside.disk) is (g.D.Disk.past c.write.new.disk) least none clean synced small (c.write.ensures.frame tells) newest in
     begun)
 
 pub returns-in-Err-clause-cause : goal.returns-in-Err-clause-cause
@@ -64,12 +64,12 @@ invariant_of-self-in-Ok-empty g c =
     let synced : HasNoMark v.store.written = subst (λ (h : Held _). HasNoMark h.now.store.written) (sym c.self.view_is) c.requires.synced in
     let low = subst (λ (h : Held _). (h.now.anchor.serial < 2 ^ 62) × (h.now.anchor.generation < 2 ^ 62)) (sym c.self.view_is) c.requires.low in
     let small : v.anchor.generation + 1 < 2 ^ 64 = omega (arith, low.1) in
-    let same : checkpoint_anchor c.self.inside.anchor c.self.inside.reached c.args.need c.uniq-self-inside.result ≡ next_anchor v c.args.need = ap (λ (n : ℕ). checkpoint_anchor c.self.inside.anchor c.self.inside.reached c.args.need n) c.uniq-self-inside.ensures in
-    let anchor : IsAnchor (next_anchor v c.args.need) = next_is_anchor c.self.inside.anchor c.self.inside.reached c.args.need c.self.inside.ring.state.files.uniq low.0 low.1 (omega (arith, known.going.reached, known.ring.limits.next)) (omega (arith, most, known.going.reached, known.ring.limits.next)) known.ring.limits.uniq.1 known.going.anchor in
-    let whole = moved_is v c.args.need c.uniq-self-inside.result c.keep_from.new.self c.empty.new.self c.keep_from.ensures c.in-Ok-empty.ensures.value c.uniq-self-inside.ensures in
+    let same : checkpoint_anchor c.self.inside.anchor c.self.inside.reached c.args.need c.args.next_archive c.uniq-self-inside.result ≡ next_anchor v c.args.need c.args.next_archive = ap (λ (n : ℕ). checkpoint_anchor c.self.inside.anchor c.self.inside.reached c.args.need c.args.next_archive n) c.uniq-self-inside.ensures in
+    let anchor : IsAnchor (next_anchor v c.args.need c.args.next_archive) = next_is_anchor c.self.inside.anchor c.self.inside.reached c.args.need c.args.next_archive c.self.inside.ring.state.files.uniq low.0 low.1 (omega (arith, known.going.reached, known.ring.limits.next)) (omega (arith, most, known.going.reached, known.ring.limits.next)) c.requires.archive known.ring.limits.uniq.1 known.going.anchor in
+    let whole = moved_is v c.args.need c.args.next_archive c.uniq-self-inside.result c.keep_from.new.self c.empty.new.self c.keep_from.ensures c.in-Ok-empty.ensures.value c.uniq-self-inside.ensures in
     subst (λ (x : Installation). IsInstallation (g.D.Disk.sizes c.empty.new.disk) x) (sym whole) (record {
       disk = subst (λ (sizes : ℕ → ℕ). HasAll c.self.inside.ring.config sizes) (sym (c.in-Ok-empty.ensures.sizes ∙ c.in-Ok.ensures.sizes)) c.self.invariant.disk;
-      going = λ going_on. moved_going v c.args.need anchor known.going;
+      going = λ going_on. moved_going v c.args.need c.args.next_archive anchor known.going;
       stamps = λ going_on. c.self.invariant.stamps stopped;
     })
 
@@ -85,14 +85,14 @@ returns-in-Ok-empty-clause-stops g c =
     let synced : HasNoMark v.store.written = subst (λ (h : Held _). HasNoMark h.now.store.written) (sym c.self.view_is) c.requires.synced in
     let low = subst (λ (h : Held _). (h.now.anchor.serial < 2 ^ 62) × (h.now.anchor.generation < 2 ^ 62)) (sym c.self.view_is) c.requires.low in
     let small : v.anchor.generation + 1 < 2 ^ 64 = omega (arith, low.1) in
-    let same : checkpoint_anchor c.self.inside.anchor c.self.inside.reached c.args.need c.uniq-self-inside.result ≡ next_anchor v c.args.need = ap (λ (n : ℕ). checkpoint_anchor c.self.inside.anchor c.self.inside.reached c.args.need n) c.uniq-self-inside.ensures in
-    let anchor : IsAnchor (next_anchor v c.args.need) = next_is_anchor c.self.inside.anchor c.self.inside.reached c.args.need c.self.inside.ring.state.files.uniq low.0 low.1 (omega (arith, known.going.reached, known.ring.limits.next)) (omega (arith, most, known.going.reached, known.ring.limits.next)) known.ring.limits.uniq.1 known.going.anchor in
-    subst (λ (h : Held _). g.D.Disk.tells → (b : Behind) → IsStored (g.D.Disk.past h.disk) h.now b → Stops (g.D.Disk.past h.disk) (g.D.Disk.past c.empty.new.disk) (StandsBetween (config_of h.now) b h.now.anchor (moved h.now c.args.need).anchor (flushed_of h.now) (flushed_of h.now))) c.self.view_is (λ tells b is.
+    let same : checkpoint_anchor c.self.inside.anchor c.self.inside.reached c.args.need c.args.next_archive c.uniq-self-inside.result ≡ next_anchor v c.args.need c.args.next_archive = ap (λ (n : ℕ). checkpoint_anchor c.self.inside.anchor c.self.inside.reached c.args.need c.args.next_archive n) c.uniq-self-inside.ensures in
+    let anchor : IsAnchor (next_anchor v c.args.need c.args.next_archive) = next_is_anchor c.self.inside.anchor c.self.inside.reached c.args.need c.args.next_archive c.self.inside.ring.state.files.uniq low.0 low.1 (omega (arith, known.going.reached, known.ring.limits.next)) (omega (arith, most, known.going.reached, known.ring.limits.next)) c.requires.archive known.ring.limits.uniq.1 known.going.anchor in
+    subst (λ (h : Held _). g.D.Disk.tells → (b : Behind) → IsStored (g.D.Disk.past h.disk) h.now b → c.args.need ≡ low_behind b.start (upto b.start b.records b.reached) → Stops (g.D.Disk.past h.disk) (g.D.Disk.past c.empty.new.disk) (StandsBetween (config_of h.now) b h.now.anchor (moved h.now c.args.need c.args.next_archive).anchor (flushed_of h.now) (flushed_of h.now))) c.self.view_is (λ tells b is least.
     let newest = subst (λ (a : Anchor). IsAnchor a → IsAbove (Some c.self.inside.anchor) a.serial → Stops (g.D.Disk.past c.self.inside.disk) (g.D.Disk.past c.write.new.disk) (IsOneOf (Some c.self.inside.anchor) (Some a))) same (λ fits above. c.write.ensures.stops tells (Some c.self.inside.anchor) is.anchor fits above) anchor (omega arith) in
-    let begun = anchor_stops v known b c.args.need need (g.D.Disk.past c.self.inside.disk) is (g.D.Disk.past c.write.new.disk) clean synced small (c.write.ensures.frame tells) newest in
+    let begun = anchor_stops v known b c.args.need c.args.next_archive need (g.D.Disk.past c.self.inside.disk) is (g.D.Disk.past c.write.new.disk) least none clean synced small (c.write.ensures.frame tells) newest in
     let ready = subst (λ (a : Anchor). IsAnchor a → IsAbove (Some c.self.inside.anchor) a.serial → IsReady (g.D.Disk.past c.write.new.disk) (Some a)) same (λ fits above. c.in-Ok.ensures.ok tells (Some c.self.inside.anchor) is.anchor fits above) anchor (omega arith) in
-    let middle = pages_behind v known b c.args.need need (g.D.Disk.past c.self.inside.disk) is (g.D.Disk.past c.write.new.disk) (c.write.ensures.frame tells).behind (c.in-Ok.ensures.reads tells) in
-    let ended = empty_stops v known b c.args.need need (g.D.Disk.past c.self.inside.disk) is (g.D.Disk.past c.write.new.disk) (g.D.Disk.past c.empty.new.disk) (c.write.ensures.frame tells).behind ready
+    let middle = pages_behind v known b c.args.need c.args.next_archive need (g.D.Disk.past c.self.inside.disk) is (g.D.Disk.past c.write.new.disk) (c.write.ensures.frame tells).behind (c.in-Ok.ensures.reads tells) in
+    let ended = empty_stops v known b c.args.need c.args.next_archive need (g.D.Disk.past c.self.inside.disk) is (g.D.Disk.past c.write.new.disk) (g.D.Disk.past c.empty.new.disk) least none (c.write.ensures.frame tells).behind ready
     (subst (λ (x : Config). Stops (g.D.Disk.past c.write.new.disk) (g.D.Disk.past c.empty.new.disk) (FramedIn (g.D.Disk.past c.write.new.disk) (in_store x))) known.going.config (c.empty.ensures.frame tells))
     (subst (λ (x : Config). Stops (g.D.Disk.past c.write.new.disk) (g.D.Disk.past c.empty.new.disk) (HoldsPages x (v.anchor.generation + 1) (checkpointed (pages_of v.anchor b)))) known.going.config (c.empty.ensures.stops tells (pages_of v.anchor b) middle)) in
     stops_both _ (g.D.Disk.past c.write.new.disk) _ _ begun (stops_weaker _ _ _ _ (λ d s. inr s) ended))
@@ -109,14 +109,14 @@ returns-in-Err-empty-clause-stops g c =
     let synced : HasNoMark v.store.written = subst (λ (h : Held _). HasNoMark h.now.store.written) (sym c.self.view_is) c.requires.synced in
     let low = subst (λ (h : Held _). (h.now.anchor.serial < 2 ^ 62) × (h.now.anchor.generation < 2 ^ 62)) (sym c.self.view_is) c.requires.low in
     let small : v.anchor.generation + 1 < 2 ^ 64 = omega (arith, low.1) in
-    let same : checkpoint_anchor c.self.inside.anchor c.self.inside.reached c.args.need c.uniq-self-inside.result ≡ next_anchor v c.args.need = ap (λ (n : ℕ). checkpoint_anchor c.self.inside.anchor c.self.inside.reached c.args.need n) c.uniq-self-inside.ensures in
-    let anchor : IsAnchor (next_anchor v c.args.need) = next_is_anchor c.self.inside.anchor c.self.inside.reached c.args.need c.self.inside.ring.state.files.uniq low.0 low.1 (omega (arith, known.going.reached, known.ring.limits.next)) (omega (arith, most, known.going.reached, known.ring.limits.next)) known.ring.limits.uniq.1 known.going.anchor in
-    subst (λ (h : Held _). g.D.Disk.tells → (b : Behind) → IsStored (g.D.Disk.past h.disk) h.now b → Stops (g.D.Disk.past h.disk) (g.D.Disk.past c.empty.new.disk) (StandsBetween (config_of h.now) b h.now.anchor (moved h.now c.args.need).anchor (flushed_of h.now) (flushed_of h.now))) c.self.view_is (λ tells b is.
+    let same : checkpoint_anchor c.self.inside.anchor c.self.inside.reached c.args.need c.args.next_archive c.uniq-self-inside.result ≡ next_anchor v c.args.need c.args.next_archive = ap (λ (n : ℕ). checkpoint_anchor c.self.inside.anchor c.self.inside.reached c.args.need c.args.next_archive n) c.uniq-self-inside.ensures in
+    let anchor : IsAnchor (next_anchor v c.args.need c.args.next_archive) = next_is_anchor c.self.inside.anchor c.self.inside.reached c.args.need c.args.next_archive c.self.inside.ring.state.files.uniq low.0 low.1 (omega (arith, known.going.reached, known.ring.limits.next)) (omega (arith, most, known.going.reached, known.ring.limits.next)) c.requires.archive known.ring.limits.uniq.1 known.going.anchor in
+    subst (λ (h : Held _). g.D.Disk.tells → (b : Behind) → IsStored (g.D.Disk.past h.disk) h.now b → c.args.need ≡ low_behind b.start (upto b.start b.records b.reached) → Stops (g.D.Disk.past h.disk) (g.D.Disk.past c.empty.new.disk) (StandsBetween (config_of h.now) b h.now.anchor (moved h.now c.args.need c.args.next_archive).anchor (flushed_of h.now) (flushed_of h.now))) c.self.view_is (λ tells b is least.
     let newest = subst (λ (a : Anchor). IsAnchor a → IsAbove (Some c.self.inside.anchor) a.serial → Stops (g.D.Disk.past c.self.inside.disk) (g.D.Disk.past c.write.new.disk) (IsOneOf (Some c.self.inside.anchor) (Some a))) same (λ fits above. c.write.ensures.stops tells (Some c.self.inside.anchor) is.anchor fits above) anchor (omega arith) in
-    let begun = anchor_stops v known b c.args.need need (g.D.Disk.past c.self.inside.disk) is (g.D.Disk.past c.write.new.disk) clean synced small (c.write.ensures.frame tells) newest in
+    let begun = anchor_stops v known b c.args.need c.args.next_archive need (g.D.Disk.past c.self.inside.disk) is (g.D.Disk.past c.write.new.disk) least none clean synced small (c.write.ensures.frame tells) newest in
     let ready = subst (λ (a : Anchor). IsAnchor a → IsAbove (Some c.self.inside.anchor) a.serial → IsReady (g.D.Disk.past c.write.new.disk) (Some a)) same (λ fits above. c.in-Ok.ensures.ok tells (Some c.self.inside.anchor) is.anchor fits above) anchor (omega arith) in
-    let middle = pages_behind v known b c.args.need need (g.D.Disk.past c.self.inside.disk) is (g.D.Disk.past c.write.new.disk) (c.write.ensures.frame tells).behind (c.in-Ok.ensures.reads tells) in
-    let ended = empty_stops v known b c.args.need need (g.D.Disk.past c.self.inside.disk) is (g.D.Disk.past c.write.new.disk) (g.D.Disk.past c.empty.new.disk) (c.write.ensures.frame tells).behind ready
+    let middle = pages_behind v known b c.args.need c.args.next_archive need (g.D.Disk.past c.self.inside.disk) is (g.D.Disk.past c.write.new.disk) (c.write.ensures.frame tells).behind (c.in-Ok.ensures.reads tells) in
+    let ended = empty_stops v known b c.args.need c.args.next_archive need (g.D.Disk.past c.self.inside.disk) is (g.D.Disk.past c.write.new.disk) (g.D.Disk.past c.empty.new.disk) least none (c.write.ensures.frame tells).behind ready
     (subst (λ (x : Config). Stops (g.D.Disk.past c.write.new.disk) (g.D.Disk.past c.empty.new.disk) (FramedIn (g.D.Disk.past c.write.new.disk) (in_store x))) known.going.config (c.empty.ensures.frame tells))
     (subst (λ (x : Config). Stops (g.D.Disk.past c.write.new.disk) (g.D.Disk.past c.empty.new.disk) (HoldsPages x (v.anchor.generation + 1) (checkpointed (pages_of v.anchor b)))) known.going.config (c.empty.ensures.stops tells (pages_of v.anchor b) middle)) in
     stops_both _ (g.D.Disk.past c.write.new.disk) _ _ begun (stops_weaker _ _ _ _ (λ d s. inr s) ended))
@@ -133,15 +133,15 @@ returns-in-Ok-empty-clause-stored g c =
     let synced : HasNoMark v.store.written = subst (λ (h : Held _). HasNoMark h.now.store.written) (sym c.self.view_is) c.requires.synced in
     let low = subst (λ (h : Held _). (h.now.anchor.serial < 2 ^ 62) × (h.now.anchor.generation < 2 ^ 62)) (sym c.self.view_is) c.requires.low in
     let small : v.anchor.generation + 1 < 2 ^ 64 = omega (arith, low.1) in
-    let same : checkpoint_anchor c.self.inside.anchor c.self.inside.reached c.args.need c.uniq-self-inside.result ≡ next_anchor v c.args.need = ap (λ (n : ℕ). checkpoint_anchor c.self.inside.anchor c.self.inside.reached c.args.need n) c.uniq-self-inside.ensures in
-    let anchor : IsAnchor (next_anchor v c.args.need) = next_is_anchor c.self.inside.anchor c.self.inside.reached c.args.need c.self.inside.ring.state.files.uniq low.0 low.1 (omega (arith, known.going.reached, known.ring.limits.next)) (omega (arith, most, known.going.reached, known.ring.limits.next)) known.ring.limits.uniq.1 known.going.anchor in
-    let whole = moved_is v c.args.need c.uniq-self-inside.result c.keep_from.new.self c.empty.new.self c.keep_from.ensures c.in-Ok-empty.ensures.value c.uniq-self-inside.ensures in
+    let same : checkpoint_anchor c.self.inside.anchor c.self.inside.reached c.args.need c.args.next_archive c.uniq-self-inside.result ≡ next_anchor v c.args.need c.args.next_archive = ap (λ (n : ℕ). checkpoint_anchor c.self.inside.anchor c.self.inside.reached c.args.need c.args.next_archive n) c.uniq-self-inside.ensures in
+    let anchor : IsAnchor (next_anchor v c.args.need c.args.next_archive) = next_is_anchor c.self.inside.anchor c.self.inside.reached c.args.need c.args.next_archive c.self.inside.ring.state.files.uniq low.0 low.1 (omega (arith, known.going.reached, known.ring.limits.next)) (omega (arith, most, known.going.reached, known.ring.limits.next)) c.requires.archive known.ring.limits.uniq.1 known.going.anchor in
+    let whole = moved_is v c.args.need c.args.next_archive c.uniq-self-inside.result c.keep_from.new.self c.empty.new.self c.keep_from.ensures c.in-Ok-empty.ensures.value c.uniq-self-inside.ensures in
     subst (λ (h : Held _). g.D.Disk.tells → (b : Behind) → IsStored (g.D.Disk.past h.disk) h.now b → c.args.need ≡ low_behind b.start (upto b.start b.records b.reached)
-    → IsStored (g.D.Disk.past c.empty.new.disk) (record { ring = c.keep_from.new.self; store = c.empty.new.self; anchor = checkpoint_anchor c.self.inside.anchor c.self.inside.reached c.args.need c.uniq-self-inside.result; reached = c.self.inside.reached; stopped = c.self.inside.stopped }) b) c.self.view_is (λ tells b is least.
+    → IsStored (g.D.Disk.past c.empty.new.disk) (record { ring = c.keep_from.new.self; store = c.empty.new.self; anchor = checkpoint_anchor c.self.inside.anchor c.self.inside.reached c.args.need c.args.next_archive c.uniq-self-inside.result; reached = c.self.inside.reached; stopped = c.self.inside.stopped }) b) c.self.view_is (λ tells b is least.
     let ready = subst (λ (a : Anchor). IsAnchor a → IsAbove (Some c.self.inside.anchor) a.serial → IsReady (g.D.Disk.past c.write.new.disk) (Some a)) same (λ fits above. c.in-Ok.ensures.ok tells (Some c.self.inside.anchor) is.anchor fits above) anchor (omega arith) in
-    let middle = pages_behind v known b c.args.need need (g.D.Disk.past c.self.inside.disk) is (g.D.Disk.past c.write.new.disk) (c.write.ensures.frame tells).behind (c.in-Ok.ensures.reads tells) in
+    let middle = pages_behind v known b c.args.need c.args.next_archive need (g.D.Disk.past c.self.inside.disk) is (g.D.Disk.past c.write.new.disk) (c.write.ensures.frame tells).behind (c.in-Ok.ensures.reads tells) in
     subst (λ (x : Installation). IsStored (g.D.Disk.past c.empty.new.disk) x b) (sym whole)
-    (moved_stored v known b c.args.need need (g.D.Disk.past c.self.inside.disk) is (g.D.Disk.past c.write.new.disk) (g.D.Disk.past c.empty.new.disk) least none (c.write.ensures.frame tells).behind ready
+    (moved_stored v known b c.args.need c.args.next_archive need (g.D.Disk.past c.self.inside.disk) is (g.D.Disk.past c.write.new.disk) (g.D.Disk.past c.empty.new.disk) least none (c.write.ensures.frame tells).behind ready
     (λ d left. subst (λ (x : Config). FramedIn (g.D.Disk.past c.write.new.disk) (in_store x) d) known.going.config ((c.empty.ensures.frame tells).behind d left))
     (subst (λ (s : Store). IsOnDisk (g.D.Disk.past c.empty.new.disk) s (checkpointed (pages_of v.anchor b))) c.in-Ok-empty.ensures.value (c.in-Ok-empty.ensures.stored tells (pages_of v.anchor b) middle))))
 

@@ -1,0 +1,41 @@
+use Rattle.std.specs.Prelude.{Err, IfOk, IsErrOf, None, Ok, OnOk, Option, Some, [], false, true, slice_index_or, ℕ, ◌+◌, ◌<◌, ◌^◌, ◌≡◌}
+use Rattle.std.proofs.Common.{ap, arith, inl, refl, subst, sym, ◌∙◌}
+use Rattle.ol_values.specs.declared.row.Row.{Row}
+use Rattle.ol_store.specs.Causes.{HasStoreCause}
+use Rattle.ol_storage.proofs.Causes.{store_failed}
+use Rattle.ol_storage.specs.Behind.{Behind, is_up, pages_of}
+use Rattle.ol_storage.specs.Causes.{HasStorageCause}
+use Rattle.ol_storage.specs.declared.storage.StorageFault.TheVariants.{Bad, Failed}
+use Rattle.ol_storage.specs.Installation.{HasAll, Held, Installation, IsInstallation, config_of, flushed_of, marked, with_ring, with_store}
+use Rattle.ol_storage.specs.Standing.{StandsBetween}
+use Rattle.ol_storage.specs.Storing.{IsStored}
+use Rattle.ol_storage.proofs.Images.{Known}
+use Rattle.ol_storage.proofs.Quiet.{before_stored, loaded_stored, passed_stored, stored_stands, switched_going, switched_stored}
+use Rattle.ol_storage.proofs.storage.Storage.read.Goals as goal
+
+pub returns-in-Ok-clause-row : goal.returns-in-Ok-clause-row
+returns-in-Ok-clause-row g c =
+    subst (λ (h : Held _). g.D.Disk.tells → (b : Behind) → IsStored (g.D.Disk.past h.disk) h.now b → is_up h.now.anchor c.args.rid.space ≡ true → c.in-Ok.row ≡ slice_index_or ((pages_of h.now.anchor b).now c.args.rid.space c.args.rid.page).slots c.args.rid.slot None) c.self.view_is
+    (λ tells b is up. c.in-Ok.ensures.row tells (pages_of c.self.inside.anchor b) is.pages.on_disk up)
+
+pub returns-in-Ok-clause-stored : goal.returns-in-Ok-clause-stored
+returns-in-Ok-clause-stored g c =
+    let v : Installation = record { ring = c.self.inside.ring; store = c.self.inside.store; anchor = c.self.inside.anchor; reached = c.self.inside.reached; stopped = c.self.inside.stopped } in
+    subst (λ (h : Held _). g.D.Disk.tells → (b : Behind) → IsStored (g.D.Disk.past h.disk) h.now b → is_up h.now.anchor c.args.rid.space ≡ true
+    → IsStored (g.D.Disk.past c.read.new.disk) (record { ring = c.self.inside.ring; store = c.read.new.self; anchor = c.self.inside.anchor; reached = c.self.inside.reached; stopped = c.self.inside.stopped }) b) c.self.view_is
+    (λ tells b is up. loaded_stored (g.D.Disk.past c.read.new.disk) v c.read.new.self b c.args.rid.space c.args.rid.page c.in-Ok.ensures.loaded (c.in-Ok.ensures.stored tells (pages_of c.self.inside.anchor b) is.pages.on_disk up)
+    (subst (λ past. IsStored past v b) (sym (c.read.ensures.past tells)) is))
+
+pub returns-in-Err-Bad-clause-good : goal.returns-in-Err-Bad-clause-good
+returns-in-Err-Bad-clause-good g c =
+    subst (λ (h : Held _). g.D.Disk.tells → (b : Behind) → IsStored (g.D.Disk.past h.disk) h.now b → is_up h.now.anchor c.args.rid.space ≡ true → (chunk at : ℕ) → IsErrOf {T = Option Row} (Err (Bad c.in-Err-Bad.chunk c.in-Err-Bad.page)) (Bad chunk at) → ⊥) c.self.view_is
+    (λ tells b is up chunk at same. c.read.ensures.good tells (pages_of c.self.inside.anchor b) is.pages.on_disk is.pages.flushed up c.in-Err-Bad.chunk c.in-Err-Bad.page (c.in-Err-Bad.is ∙ ap Err c.in-Err-Bad.field-0-is))
+
+pub returns-in-Err-Failed-clause-cause : goal.returns-in-Err-Failed-clause-cause
+returns-in-Err-Failed-clause-cause g c =
+    let v : Installation = record { ring = c.self.inside.ring; store = c.self.inside.store; anchor = c.self.inside.anchor; reached = c.self.inside.reached; stopped = c.self.inside.stopped } in
+    let stopped : c.self.inside.stopped ≡ false = ap (λ (h : Held _). h.now.stopped) c.self.view_is ∙ c.requires.going in
+    let known : Known v = record { going = c.self.invariant.going stopped; ring = c.reusable.ensures.limits; area = c.spare.ensures.store.area } in
+    subst (λ (h : Held _). HasStorageCause {T = Option Row} (config_of h.now) (g.D.Disk.fault_counts h.disk) (g.D.Disk.fault_counts c.read.new.disk) (Err Failed)) c.self.view_is
+    (store_failed c.self.inside.store.config c.self.inside.ring.config known.going.config (g.D.Disk.fault_counts c.self.inside.disk) (g.D.Disk.fault_counts c.read.new.disk)
+    (subst (λ r. HasStoreCause {T = Option Row} c.self.inside.store.config (g.D.Disk.fault_counts c.self.inside.disk) (g.D.Disk.fault_counts c.read.new.disk) r) (c.in-Err-Failed.is ∙ ap Err c.in-Err-Failed.field-0-is) c.read.ensures.cause))
