@@ -9,7 +9,7 @@ use Rattle.ol_values.specs.Blocks.{ArchiveHead, Saved}
 use Rattle.ol_values.specs.Config.{Config}
 use Rattle.ol_rules.specs.Shelf.{saved_in}
 use Rattle.ol_object.specs.Spaces.{saved_of}
-use Rattle.ol_plan.specs.declared.object.Object.{Object}
+use Rattle.ol_object_spans.specs.declared.object.Object.{Object}
 use Rattle.ol_plan.specs.Archives.{saved_told}
 use Rattle.ol_plan.proofs.Lists.{find_of_map}
 

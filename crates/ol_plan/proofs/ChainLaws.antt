@@ -2,11 +2,11 @@
 use Rattle.std.proofs.Common.{◌≡◌, ℕ, ◌+◌, ◌<◌, ◌++◌, ◌∙◌, Option, Result, Ok, Err, List, ◌∷◌, ap, drop, get_or, length, map, subst, sym, take}
 use Rattle.std.proofs.lemmas.List.{drop_more, map_more}
 use Rattle.std.proofs.lemmas.List.Sums.{fold_push}
+use Rattle.ol_object_spans.specs.declared.object.Object.{Object}
 use Rattle.ol_plan.specs.declared.archives.Link.{Link}
 use Rattle.ol_plan.specs.declared.chain.SpaceChain.{SpaceChain}
 use Rattle.ol_plan.specs.declared.fault.PlanFault.{PlanFault}
 use Rattle.ol_plan.specs.declared.fault.PlanFault.TheVariants.{DamagedVolume, MissingLevel, MissingLog, NoMemory}
-use Rattle.ol_plan.specs.declared.object.Object.{Object}
 use Rattle.ol_plan.specs.Chains.{Chain, IsCause, chain, chain_of, chains, cons_chain, last_of, least_low, lower}
 
 -- chains with those behind them

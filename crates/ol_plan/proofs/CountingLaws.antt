@@ -7,8 +7,8 @@ use Rattle.std.proofs.lemmas.List.Folds.{fold-map}
 use Rattle.ol_values.specs.Blocks.{log_object, mark_object}
 use Rattle.ol_rules.specs.Shelf as rules
 use Rattle.ol_rules.specs.Shelf.{Object, Shelf, objects}
-use Rattle.ol_plan.specs.declared.object.Object as told
-use Rattle.ol_plan.specs.Objects.{object_told}
+use Rattle.ol_object_spans.specs.declared.object.Object as told
+use Rattle.ol_object_spans.specs.Objects.{object_told}
 use Rattle.ol_plan.specs.Counting.{archive_counts, end_of, end_with, is_mark_above, least_end, reach_of}
 use Rattle.ol_plan.proofs.Lists.{fold_of_filter, fold_same, filter_of_map, filter_twice, map_twice}
 

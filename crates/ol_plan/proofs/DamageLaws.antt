@@ -9,12 +9,12 @@ use Rattle.std.proofs.lemmas.List.Sums.{fold-append, fold_push}
 use Rattle.ol_rules.specs.Plan as plans
 use Rattle.ol_rules.specs.Plan.{earlier_of}
 use Rattle.ol_rules.specs.Shelf.{Object, Placed, Shelf, bad_blocks, objects}
+use Rattle.ol_object_spans.specs.declared.place.Place.{Place}
+use Rattle.ol_object_spans.specs.Objects.{first_place, place_told}
 use Rattle.ol_plan.specs.declared.archives.Link.{Link}
 use Rattle.ol_plan.specs.declared.logs.LogSpan.{LogSpan}
-use Rattle.ol_plan.specs.declared.object.Place.{Place}
 use Rattle.ol_plan.specs.Damage.{bad_of_links, earlier, is_before}
 use Rattle.ol_plan.specs.Logs.{goes_on, with_run}
-use Rattle.ol_plan.specs.Objects.{first_place, place_told}
 use Rattle.ol_plan.proofs.LinkLaws.{as_pair}
 use Rattle.ol_plan.proofs.LogLaws.{last_push}
 use Rattle.ol_plan.proofs.PairLaws.{AllAt, Pair, value}

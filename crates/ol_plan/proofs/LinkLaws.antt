@@ -9,13 +9,14 @@ use Rattle.ol_rules.specs.Shelf as rules
 use Rattle.ol_rules.specs.Shelf.{Object, Shelf, head_of, objects, saved_in}
 use Rattle.ol_rules.specs.Plan as plans
 use Rattle.ol_rules.specs.Plan.{nothing_saved}
+use Rattle.ol_object_spans.specs.declared.object.Object as told
+use Rattle.ol_object_spans.specs.Objects.{archive_in, object_told}
+use Rattle.ol_object_spans.specs.Told.{held_told}
 use Rattle.ol_plan.specs.declared.archives.Link.{Link}
 use Rattle.ol_plan.specs.declared.fault.PlanFault.{PlanFault}
 use Rattle.ol_plan.specs.declared.fault.PlanFault.TheVariants as fault
-use Rattle.ol_plan.specs.declared.object.Object as told
 use Rattle.ol_plan.specs.Archives.{as_link, is_link, link_of, links, saved_by, saved_told}
 use Rattle.ol_plan.specs.Chains.{and_up, chain, first_link, is_parent, last_link, one_up, with_later, with_parent}
-use Rattle.ol_plan.specs.Objects.{archive_in, object_told}
 use Rattle.ol_plan.specs.Planned.{IsReply}
 use Rattle.ol_plan.proofs.CountingLaws.{counts_told, told_of}
 use Rattle.ol_plan.proofs.Lists.{enumerate_of_map, filter_map_of_map, filter_twice, filter_values, find_of_filter, find_of_map, fold_hom, fold_of_filter, selected, values_of_enumerate}
@@ -23,7 +24,7 @@ use Rattle.ol_plan.proofs.PairLaws.{AllAt, IfAt, IsAt, Pair, filter_at, find_at,
 
 -- ---- what an archive saves
 
-saved_same : (space : ℕ) (x : Payload) → saved_told space (archive_in x) ≡ saved_in space (head_of x).spaces
+saved_same : (space : ℕ) (x : Payload) → saved_told space (archive_in (held_told x)) ≡ saved_in space (head_of x).spaces
 saved_same space Empty = refl
 saved_same space (HeadHeld head config) = refl
 saved_same space (PageHeld page) = refl

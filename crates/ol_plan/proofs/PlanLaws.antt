@@ -10,12 +10,13 @@ use Rattle.ol_rules.specs.Shelf as rules
 use Rattle.ol_rules.specs.Shelf.{Object, Placed, Shelf, objects}
 use Rattle.ol_rules.specs.Plan as plans
 use Rattle.ol_rules.specs.Plan.{plan_of, plan_to}
+use Rattle.ol_object_spans.specs.declared.object.Object as told
+use Rattle.ol_object_spans.specs.declared.place.Place.{Place}
+use Rattle.ol_object_spans.specs.Objects.{place_told}
 use Rattle.ol_plan.specs.declared.archives.Link.{Link}
 use Rattle.ol_plan.specs.declared.fault.PlanFault.{PlanFault}
 use Rattle.ol_plan.specs.declared.fault.PlanFault.TheVariants.{DamagedVolume, MissingLevel, MissingLog, NoMemory}
 use Rattle.ol_plan.specs.declared.logs.LogSpan.{LogSpan}
-use Rattle.ol_plan.specs.declared.object.Object as told
-use Rattle.ol_plan.specs.declared.object.Place.{Place}
 use Rattle.ol_plan.specs.declared.plan.Chain as code
 use Rattle.ol_plan.specs.declared.plan.Plan.{Plan}
 use Rattle.ol_plan.specs.Archives.{index_of_link}
@@ -23,7 +24,6 @@ use Rattle.ol_plan.specs.Chains.{Chain, IsCause, chain, chains, cons_chain, last
 use Rattle.ol_plan.specs.Damage.{bad_of_links, earlier, first_bad}
 use Rattle.ol_plan.specs.Drafts.{Archives, Draft, IsDraftTold, archives_of, damage_in, draft_with, drafted, drafted_with, fault_in, fault_with, links_in}
 use Rattle.ol_plan.specs.Logs.{index_of_log, logs, runs, short}
-use Rattle.ol_plan.specs.Objects.{place_told}
 use Rattle.ol_plan.specs.Planned.{AreAt, AreChains, IsPlan, IsPlanOf, IsRefusal, IsReply, planned}
 use Rattle.ol_plan.proofs.CountingLaws.{told_of}
 use Rattle.ol_plan.proofs.DamageLaws.{bad_told, both_rise, links_bad, logs_bad, pairs_rise, with_object}

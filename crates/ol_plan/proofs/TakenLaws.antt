@@ -9,10 +9,10 @@ use Rattle.ol_rules.specs.Shelf as rules
 use Rattle.ol_rules.specs.Shelf.{Object, Shelf, bad_blocks, objects}
 use Rattle.ol_rules.specs.Plan as plans
 use Rattle.ol_rules.specs.Plan.{needed}
+use Rattle.ol_object_spans.specs.declared.object.Object as told
+use Rattle.ol_object_spans.specs.Objects.{first_place, object_told}
 use Rattle.ol_plan.specs.declared.logs.LogSpan.{LogSpan}
-use Rattle.ol_plan.specs.declared.object.Object as told
 use Rattle.ol_plan.specs.Logs.{as_log, further_of, goes_on, index_of_log, log_of, logs, runs, short, span_at, with_run, with_span}
-use Rattle.ol_plan.specs.Objects.{first_place, object_told}
 use Rattle.ol_plan.specs.Planned.{AreLogs, differs, last_of, once}
 use Rattle.ol_plan.proofs.CountingLaws.{reach_told, told_of}
 use Rattle.ol_plan.proofs.Lists.{enumerate_of_map, filter_map_of_map, filter_of_map, filter_values, fold_hom, fold_of_filter, get_of_map, length_of_map, selected}

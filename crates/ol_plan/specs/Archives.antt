@@ -5,8 +5,8 @@ use Rattle.ol_values.specs.Blocks.{ArchiveHead, Saved, archive_object}
 use Rattle.ol_values.specs.Config.{Config}
 use Rattle.ol_rules.specs.Plan.{nothing_saved}
 use Rattle.ol_rules.specs.Shelf.{saved_in}
+use Rattle.ol_object_spans.specs.declared.object.Object.{Object}
 use Rattle.ol_plan.specs.declared.archives.Link.{Link}
-use Rattle.ol_plan.specs.declared.object.Object.{Object}
 use Rattle.ol_plan.specs.Counting.{archive_counts, is_kind}
 
 -- what an archive head says of a space

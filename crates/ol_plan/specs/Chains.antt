@@ -1,10 +1,10 @@
 -- The chains of spaces, over archives that count.
 use Rattle.std.specs.Prelude.{Bool, Err, List, None, Ok, Option, Result, Some, [], find, fold, if◌then◌else◌, length, min, nat_le, nat_lt, slice_get, ℕ, ◌&&◌, ◌+◌, ◌-◌, ◌==◌, ◌||◌, ◌≡◌, ◌∷◌}
+use Rattle.ol_object_spans.specs.declared.object.Object.{Object}
 use Rattle.ol_plan.specs.declared.archives.Link.{Link}
 use Rattle.ol_plan.specs.declared.chain.SpaceChain.{SpaceChain}
 use Rattle.ol_plan.specs.declared.fault.PlanFault.{PlanFault}
 use Rattle.ol_plan.specs.declared.fault.PlanFault.TheVariants.{MissingLevel, NoMemory}
-use Rattle.ol_plan.specs.declared.object.Object.{Object}
 use Rattle.ol_plan.specs.Archives.{links}
 
 -- the cause of a fault, where this is what there should be: memory was refused, or there should be the same fault

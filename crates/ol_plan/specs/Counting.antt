@@ -1,7 +1,7 @@
 -- Which archives count, and how far logs do, over the objects as they are told.
 use Rattle.std.specs.Prelude.{Bool, List, filter, fold, if◌then◌else◌, map, max, min, nat_le, nat_lt, ℕ, ◌&&◌, ◌==◌}
 use Rattle.ol_values.specs.Blocks.{log_object, mark_object}
-use Rattle.ol_plan.specs.declared.object.Object.{Object}
+use Rattle.ol_object_spans.specs.declared.object.Object.{Object}
 
 -- an object of this kind
 abbrev pub is_kind : ℕ → Object → Bool

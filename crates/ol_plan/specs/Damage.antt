@@ -1,8 +1,8 @@
 -- The first bad block of what a plan takes, over the objects as they are told.
 use Rattle.std.specs.Prelude.{Bool, List, None, Option, Some, fold, if◌then◌else◌, nat_lt, ◌&&◌, ◌==◌, ◌||◌}
+use Rattle.ol_object_spans.specs.declared.place.Place.{Place}
 use Rattle.ol_plan.specs.declared.archives.Link.{Link}
 use Rattle.ol_plan.specs.declared.logs.LogSpan.{LogSpan}
-use Rattle.ol_plan.specs.declared.object.Place.{Place}
 use Rattle.ol_plan.specs.Chains.{Chain}
 
 -- the order of places: by drive, volume and block

@@ -1,10 +1,10 @@
 -- The parts of a plan, over the objects as they are told.
 use Rattle.std.specs.Prelude.{Bool, Err, List, None, Ok, Option, Result, Some, false, map, min, option_map, true, ℕ, ◌-◌, ◌^◌, ◌≡◌}
+use Rattle.ol_object_spans.specs.declared.object.Object.{Object}
+use Rattle.ol_object_spans.specs.declared.place.Place.{Place}
 use Rattle.ol_plan.specs.declared.fault.PlanFault.{PlanFault}
 use Rattle.ol_plan.specs.declared.fault.PlanFault.TheVariants.{DamagedVolume, MissingLog}
 use Rattle.ol_plan.specs.declared.logs.LogSpan.{LogSpan}
-use Rattle.ol_plan.specs.declared.object.Object.{Object}
-use Rattle.ol_plan.specs.declared.object.Place.{Place}
 use Rattle.ol_plan.specs.declared.plan.Draft as code
 use Rattle.ol_plan.specs.declared.plan.Chain as code_chain
 use Rattle.ol_plan.specs.declared.plan.Plan.{Plan}

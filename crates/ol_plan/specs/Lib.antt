@@ -1,4 +1,3 @@
-pub mod Objects
 pub mod Counting
 pub mod Archives
 pub mod Chains

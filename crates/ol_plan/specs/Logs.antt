@@ -3,9 +3,9 @@ use Rattle.std.specs.List.{enumerate_from, take_while}
 use Rattle.std.specs.Prelude.{Bool, List, None, Option, Some, [], false, filter_map, find, fold, if◌then◌else◌, is_some, length, min, nat_le, nat_lt, not, slice_get, ℕ, ◌&&◌, ◌++◌, ◌-◌, ◌==◌, ◌≡◌, ◌∷◌}
 use Rattle.ol_values.specs.Blocks.{log_object}
 use Rattle.ol_rules.specs.Plan.{needed}
+use Rattle.ol_object_spans.specs.declared.object.Object.{Object}
 use Rattle.ol_plan.specs.declared.logs.LogSpan.{LogSpan}
 use Rattle.ol_plan.specs.declared.logs.Runs.{Runs}
-use Rattle.ol_plan.specs.declared.object.Object.{Object}
 use Rattle.ol_plan.specs.Counting.{is_kind, reach_of}
 
 -- a log object by its index

@@ -6,7 +6,7 @@ ghost use Rattle.ol_plan.specs.Archives.{link_of, links, saved_by};
 
 use crate::NoMemory;
 use crate::counting::{ARCHIVE_OBJECT, archive_counts};
-use crate::object::{Object, Place};
+use ol_object_spans::{Object, Place};
 use std::alloc::Global;
 
 /// An archive that counts, as one that holds a space.

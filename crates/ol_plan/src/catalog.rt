@@ -1,12 +1,12 @@
 //! The objects of a shelf.
 
 ghost use Rattle.std.specs.Prelude.{◌≡◌, map};
+ghost use Rattle.ol_object_spans.specs.Objects.{object_told};
 ghost use Rattle.ol_plan.specs.Counting.{end_of, end_with};
-ghost use Rattle.ol_plan.specs.Objects.{object_told};
 ghost use Rattle.ol_rules.specs.Shelf.{Shelf, objects, end_of as end_of_shelf};
 
 use crate::counting::{LOG_OBJECT, reach_of};
-use crate::object::Object;
+use ol_object_spans::Object;
 use std::marker::Model;
 
 /// The complete objects and marks of a shelf, in order of place.
@@ -17,7 +17,7 @@ pub struct Catalog {
 
 impl Model for Catalog {
     ghost use Rattle.std.specs.Prelude.{List};
-    ghost use Rattle.ol_plan.specs.declared.object.Object.{Object as ObjectValue};
+    ghost use Rattle.ol_object_spans.specs.declared.object.Object.{Object as ObjectValue};
 
     ghost Value = { List ObjectValue };
 

@@ -5,7 +5,7 @@ ghost use Rattle.ol_plan.specs.Chains.{IsCause, chain, chain_of, chains, is_late
 
 use crate::archives::{Link, links};
 use crate::fault::PlanFault;
-use crate::object::Object;
+use ol_object_spans::Object;
 use std::alloc::Global;
 
 /// The archives of a space that a restore takes, from level 0 on.

@@ -3,7 +3,7 @@
 ghost use Rattle.std.specs.Prelude.{◌≡◌};
 ghost use Rattle.ol_plan.specs.Counting.{archive_counts, is_mark_above, least_end, reach_of};
 
-use crate::object::Object;
+use ol_object_spans::Object;
 
 /// The kind of an archive as an object.
 pub(crate) const ARCHIVE_OBJECT: u8 = 1;

@@ -7,7 +7,7 @@ ghost use Rattle.ol_plan.specs.Damage.{bad_of_chains, bad_of_links, earlier, fir
 use crate::archives::Link;
 use crate::chain::SpaceChain;
 use crate::logs::LogSpan;
-use crate::object::Place;
+use ol_object_spans::Place;
 
 /// The first bad block by place of chains and logs.
 pub(crate) fn first_bad(chains: &[SpaceChain], logs: &[LogSpan]) -> Option<Place>

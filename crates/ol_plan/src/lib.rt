@@ -8,12 +8,10 @@ mod counting;
 mod damage;
 mod fault;
 mod logs;
-mod object;
 mod plan;
 
 pub use catalog::Catalog;
 pub use fault::PlanFault;
-pub use object::{BlockHead, Object, Place};
 pub use plan::{Chain, Plan, plan_restore};
 
 /// Memory was refused.

@@ -5,7 +5,7 @@ ghost use Rattle.ol_plan.specs.Logs.{IsRuns, before_start, goes_on, log_of, logs
 
 use crate::NoMemory;
 use crate::counting::{LOG_OBJECT, reach_of};
-use crate::object::{Object, Place};
+use ol_object_spans::{Object, Place};
 use std::alloc::Global;
 
 /// A log object, by the positions that it counts for.

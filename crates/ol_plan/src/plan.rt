@@ -2,12 +2,12 @@
 
 ghost use Rattle.std.specs.Prelude.{◌≡◌, IfOk, MatchResult, Ok, map, unwrap_or};
 ghost use Rattle.ol_rules.specs.Shelf.{Shelf, objects};
+ghost use Rattle.ol_object_spans.specs.Objects.{object_told};
 ghost use Rattle.ol_plan.specs.Archives.{index_of_link};
 ghost use Rattle.ol_plan.specs.Chains.{IsCause, chain_of};
 ghost use Rattle.ol_plan.specs.Counting.{end_of};
 ghost use Rattle.ol_plan.specs.Drafts.{IsDraftTold, archives_of, damage_in, draft_of, drafted, fault_in, links_in};
 ghost use Rattle.ol_plan.specs.Logs.{index_of_log};
-ghost use Rattle.ol_plan.specs.Objects.{object_told};
 ghost use Rattle.ol_plan.specs.Planned.{IsPlanned, planned};
 
 use crate::NoMemory;
@@ -17,7 +17,7 @@ use crate::chain::{SpaceChain, chains, least_low};
 use crate::damage::first_bad;
 use crate::fault::PlanFault;
 use crate::logs::{LogSpan, Runs, logs, take_runs};
-use crate::object::Object;
+use ol_object_spans::Object;
 use std::alloc::Global;
 
 /// The archives of a space that a restore takes.
