@@ -21,7 +21,7 @@ use Rattle.ol_catalog.proofs.Streams.{streams_end, streams_more}
 
 -- ---- spans have blocks of their stream alone
 
-all_filtered : {X Y : Type 0} (P : Y → Type 0) (f : X → Option Y) → ((x : X) → IfSome (f x) P) → (xs : List X) → All P (filter_map f xs)
+pub all_filtered : {X Y : Type 0} (P : Y → Type 0) (f : X → Option Y) → ((x : X) → IfSome (f x) P) → (xs : List X) → All P (filter_map f xs)
 all_filtered P f each [] = All-nil P
 all_filtered P f each (x ∷ xs) = elim (f x) as (λ o. IfSome o P → All P (cons_option o (filter_map f xs))) [
   | None ↦ λ p. all_filtered P f each xs
@@ -132,7 +132,7 @@ joined n ls l below of =
 
 -- ---- one drive more
 
-drive_of : (tapes : List (List (List (List ℕ)))) (n : ℕ) → AreOf n (drive_blocks tapes n)
+pub drive_of : (tapes : List (List (List (List ℕ)))) (n : ℕ) → AreOf n (drive_blocks tapes n)
 drive_of tapes n = All-map (λ (p : Placed). p.drive ≡ n) (placed_at tapes n) _ (λ k d h. refl)
 
 wider : (n : ℕ) (ls : List (List Placed)) → All (AreBelow n) ls → All (AreBelow (n + 1)) ls

@@ -1,5 +1,11 @@
-use Rattle.std.proofs.Common.{refl, ◌∙◌}
+use Rattle.std.proofs.Common.{◌≡◌, ◌∙◌, Option, Some, ap, arith, map, option_map, refl, sym, ℕ}
+use Rattle.ol_rules.specs.Plan.{bad_outside}
+use Rattle.ol_rules.specs.Shelf.{objects}
+use Rattle.ol_object_spans.specs.declared.place.Place.{Place}
+use Rattle.ol_object_spans.specs.Objects.{object_told, place_told}
+use Rattle.ol_catalog.specs.Streams.{shelf_to}
 use Rattle.ol_catalog.proofs.Joins.{found_more, nothing_found, outside_more}
+use Rattle.ol_catalog.proofs.WrittenLaws.{archive_found, archive_spared}
 use Rattle.ol_catalog.proofs.catalog.read.Goals as goal
 
 pub loop-drive-init : goal.loop-drive-init
@@ -19,3 +25,17 @@ loop-drive-preserved g c =
       tapes = λ t. read.tapes t ∙ was.tapes t;
       faults = read.cause ∙ was.faults;
     }
+
+pub returns-in-None-clause-archive : goal.returns-in-None-clause-archive
+returns-in-None-clause-archive g c = λ t drive x there is on.
+    let tapes = g.F.Shelf.tapes c.args.shelf.now in
+    let last : c.loop-drive.drive ≡ 5 = omega (arith, c.loop-drive-test.false, c.loop-drive.auto.drive-end) in
+    archive_found tapes drive x c.loop-drive.all.items there is on (c.loop-drive.invariant.found t ∙ ap (λ (n : ℕ). map object_told (objects (shelf_to tapes n))) last)
+
+pub returns-in-Some-clause-spared : goal.returns-in-Some-clause-spared
+returns-in-Some-clause-spared g c = λ t drive x is on p e.
+    let tapes = g.F.Shelf.tapes c.args.shelf.now in
+    let last : c.loop-drive.drive ≡ 5 = omega (arith, c.loop-drive-test.false, c.loop-drive.auto.drive-end) in
+    let first = c.loop-drive.invariant.outside t ∙ ap (λ (n : ℕ). option_map place_told (bad_outside (shelf_to tapes n))) last in
+    let same : c.in-Some.place ≡ p = cc in
+    archive_spared tapes drive x is on p (sym first ∙ c.in-Some.is ∙ ap (λ (q : Place). let o : Option Place = Some q in o) same)
