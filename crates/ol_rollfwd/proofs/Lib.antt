@@ -1,0 +1,5 @@
+pub mod LoserLaws
+pub mod FrameLaws
+pub mod FeedLaws
+pub mod TxnSteps
+pub mod JournalLaws

@@ -1,0 +1,4 @@
+pub mod Losers
+pub mod Rolls
+pub mod Feeding
+pub mod Journals
