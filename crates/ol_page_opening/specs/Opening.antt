@@ -48,7 +48,7 @@ pub record AreGood (c : Config) (generation : ℕ) (d : Bytes) : Type 0 where
 abbrev pub IsBad : Config → ℕ → Bytes → ℕ → ℕ → Type 0
 IsBad c generation d chunk page =
     ((k : ℕ) × IsHeadAt c k chunk page × IsFirstRefused c generation d k)
-    ⊎ ((k : ℕ) × (k < (physical_area c).count) × IsImageAt c k chunk page × HasNoImage c generation d k)
+    ⊎ (((k : ℕ) → k < (physical_area c).count → IsRefused c (physical_area c) generation d k → ⊥) × ((k : ℕ) × (k < (physical_area c).count) × IsImageAt c k chunk page × HasNoImage c generation d k))
 
 -- ---- the store
 
