@@ -37,7 +37,7 @@ unfolding Chain
 chain_end c e [] a b chain same = same ∙ chain
 chain_end c e (l ∷ rest) a b chain same = chain_end c (end_of l.page) rest (end_of l.page) b chain.1 refl
 
-chain_rest : (c : Config) (m : OpenLog) (l : List OpenLog) (a b : ℕ) → Chain (m ∷ l) a b → end_behind (end_of m.page) (map (stood_of c) l) ≡ b
+pub chain_rest : (c : Config) (m : OpenLog) (l : List OpenLog) (a b : ℕ) → Chain (m ∷ l) a b → end_behind (end_of m.page) (map (stood_of c) l) ≡ b
 unfolding Chain
 chain_rest c m l a b chain = chain_end c (end_of m.page) l (end_of m.page) b chain.1 refl
 
@@ -47,7 +47,7 @@ ends_at c r n l [] a b chain stand = (l.page, stand.0.0, chain.1)
 ends_at c r n l (m ∷ rest) a b chain stand = ends_at c r n m rest (end_of l.page) b chain.1 stand.1
 
 -- pages that follow one another from one position to a later are some
-some_pages : (l : List OpenLog) (a b : ℕ) → a < b → Chain l a b → l ≡ [] → ⊥
+pub some_pages : (l : List OpenLog) (a b : ℕ) → a < b → Chain l a b → l ≡ [] → ⊥
 unfolding Chain
 some_pages [] a b lt chain none = omega (arith, lt, chain)
 some_pages (m ∷ l) a b lt chain none = (let clash : m ∷ l ≡ [] = none in cc)

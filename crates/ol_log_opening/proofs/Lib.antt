@@ -1,3 +1,4 @@
 pub mod Ends
 pub mod Opening
 pub mod Causes
+pub mod Whole

@@ -1,10 +1,13 @@
 -- The log of a disk that is opened.
 use Rattle.std.specs.Prelude.{Bool, IsErrOf, List, Result, [], nat_le, nat_lt, ℕ, ◌&&◌, ◌+◌, ◌<◌, ◌^◌, ◌||◌, ◌∷◌, ◌≡◌, ◌≤◌}
-use Rattle.ol_values.specs.Config.{Config}
+use Rattle.ol_values.specs.Config.{Config, log_pages}
+use Rattle.ol_values.specs.LogPages.{LogPage}
 use Rattle.ol_rules.specs.Ring.{Reuse}
 use Rattle.ol_ports.specs.Causes.{HasFailed}
 use Rattle.ol_reserve.specs.declared.anchor.Anchor.{Anchor}
 use Rattle.ol_log_places.specs.Heads.{end_in}
+use Rattle.ol_log_places.specs.Places.{Place}
+use Rattle.ol_log_places.specs.Runs.{Stands, end_of}
 use Rattle.ol_log_places.specs.declared.heads.Stood.{Stood}
 use Rattle.ol_log_state.specs.declared.places.RingStart.{RingStart}
 use Rattle.ol_loglog.specs.Ready.{IsNextUnbacked}
@@ -28,6 +31,10 @@ lacks_in position need (s ∷ run) = (nat_le need position && nat_lt need s.head
 
 abbrev pub lacks : ℕ → ℕ → List Stood → Bool
 lacks position need run = nat_le (2 ^ 62) position || lacks_in position need run
+
+-- where some page stands, one ends just before this position
+abbrev pub EndsAt : Config → (ℕ → Place) → ℕ → Type 0
+EndsAt c r upto = (p : LogPage) → Stands r (log_pages c) p → (q : LogPage) × Stands r (log_pages c) q × (end_of q ≡ upto)
 
 -- the numbers that a ring starts with, for an anchor and the position of the next record
 abbrev pub ring_start : Anchor → ℕ → RingStart

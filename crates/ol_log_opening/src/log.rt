@@ -15,7 +15,7 @@ ghost use Rattle.ol_log_state.specs.StoredFiles.{heads_in};
 ghost use Rattle.ol_loglog.specs.Ready.{IsInOrder, IsReady};
 ghost use Rattle.ol_loglog.specs.RingValue.{ring_value};
 ghost use Rattle.ol_reserve.specs.Anchor.{IsAnchor};
-ghost use Rattle.ol_log_opening.specs.Opened.{HasLogCause, IsOpenedLog, end_behind, lacks, next_behind, ring_start};
+ghost use Rattle.ol_log_opening.specs.Opened.{EndsAt, HasLogCause, IsOpenedLog, end_behind, lacks, next_behind, ring_start};
 
 use ol_chunks::ChunkTable;
 use ol_log_places::{ScanFault, Standing, Stood, scan};
@@ -56,6 +56,10 @@ pub fn read_log<D: Disk>(
     ensures ready { D.tells → IsQuiet (D.past disk.old) → (j : ℕ → RecordValue) (last : ℕ) → anchor.now.need ≤ anchor.now.position + 1 → anchor.now.position ≤ last → IsLogged table.now (places table.now (seen (D.past disk.old))) j anchor.now.need (last + 1)
         → IsNear table.now (places table.now (seen (D.past disk.old))) (first_uniq (ring_start anchor.now (last + 1))) (last + 1)
         → IfOk result (λ ring. (ring.state.next ≡ last + 1) × IsReady (D.past disk.new) ring (places table.now (seen (D.past disk.old))) anchor.now.need j × IsInOrder table.now ring.state) }
+    // A disk whose log pages hold a journal from the need on to a last position is opened. Where nothing of it is needed, the
+    // page that ends last is there still, or none is.
+    ensures whole { D.tells → (j : ℕ → RecordValue) (last : ℕ) → anchor.now.need ≤ anchor.now.position + 1 → anchor.now.position ≤ last → anchor.now.position < 2 ^ 62 → IsLogged table.now (places table.now (seen (D.past disk.old))) j anchor.now.need (last + 1)
+        → (anchor.now.need ≡ last + 1 → EndsAt table.now (places table.now (seen (D.past disk.old))) (last + 1)) → (chunk page : ℕ) → IsErrOf result (LogOpenFault.BadDisk chunk page) → ⊥ }
     ensures place { (chunk page : ℕ) → IsErrOf result (LogOpenFault.BadDisk chunk page) → in_log table.now chunk page ≡ true }
     ensures past { D.tells → D.past disk.new ≡ D.past disk.old }
     ensures sizes { D.sizes disk.new ≡ D.sizes disk.old }
@@ -84,6 +88,7 @@ fn open_ring(
     requires gates { length standing.gates ≡ log_pages table.now }
     ensures value { IfOk result (λ ring. ring ≡ ring_value table.now (started (log_area table.now) (ring_start anchor.now (next_behind anchor.now.position standing.run)) (heads_in standing.run)) standing.gates) }
     ensures whole { OnOk result (lacks anchor.now.position anchor.now.need standing.run ≡ false) }
+    ensures lack { (chunk page : ℕ) → IsErrOf result (LogOpenFault.BadDisk chunk page) → lacks anchor.now.position anchor.now.need standing.run ≡ true }
     ensures place { (chunk page : ℕ) → IsErrOf result (LogOpenFault.BadDisk chunk page) → in_log table.now chunk page ≡ true }
     ensures fault { (chunk : ℕ) → IsErrOf result (LogOpenFault.DiskFault chunk) → ⊥ }
 {

@@ -24,6 +24,7 @@ use Rattle.ol_log_state.proofs.NextLaws.{next_leaves, next_reuses}
 use Rattle.ol_log_state.proofs.RingLaws.{switched_ring}
 use Rattle.ol_loglog.specs.RingValue.{HasRoom, IsLogRing, RingValue, first_unwritten, with_state}
 use Rattle.ol_loglog.specs.Ready.{IsFloor, IsInOrder, IsNextFree, IsNextUnbacked, IsNotLast, IsReady, current_file, next_file}
+use Rattle.ol_loglog.proofs.HeadLaws.{keeps_switched, none_lost}
 use Rattle.ol_loglog.proofs.Opening.{greatest_from}
 use Rattle.ol_loglog.proofs.Readies.{stand}
 use Rattle.ol_loglog.proofs.Rules.{reusable_is}
@@ -73,7 +74,7 @@ module _ (past : Past) (v : RingValue) (r : ℕ → Place) (floor : ℕ) (j : �
       t = record { place = k; within = lt; is = at }
 
       same : file_of v.config p.uniq ≡ next_file v.config v.state
-      same = let its = stand v.config v.state v.gates past r floor j ready k p lt at in there_file v.config k (next_file v.config v.state) p its.0 its.1 in_it
+      same = let its = stand none_lost v.config v.state v.gates past r floor j ready k p lt at in there_file v.config k (next_file v.config v.state) p its.0 its.1 in_it
 
       clash : floor < end_of p → ⊥
       clash above =
@@ -140,6 +141,7 @@ ready_switched past v r floor j ready =
       newest = ready.newest;
       near = ready.near;
       last = λ p u t end is. (let w = of_map f (current_use v.state.files) u (sym (current_off v.config v.state) ∙ is) in ready.last p w.0 t end w.1);
+      kept = keeps_switched v.config r none_lost v.state.files.uniq v.state.files.uses ready.kept;
     }
 
 pub order_switched : (c : Config) (s : RingState) → IsInOrder c s → IsInOrder c (switched s)
@@ -197,6 +199,7 @@ ready_backed past v r floor uniq j ready = record {
   newest = ready.newest;
   near = ready.near;
   last = ready.last;
+  kept = ready.kept;
 }
 
 pub ready_need : (past : Past) (v : RingValue) (r : ℕ → Place) (floor need : ℕ) (j : ℕ → Record) → IsReady past v r floor j → IsReady past (with_state (with_need need v.state) v) r floor j
@@ -211,6 +214,7 @@ ready_need past v r floor need j ready = record {
   newest = ready.newest;
   near = ready.near;
   last = ready.last;
+  kept = ready.kept;
 }
 
 pub ready_elsewhere : (past now : Past) (v : RingValue) (r : ℕ → Place) (floor : ℕ) (j : ℕ → Record) → IsPlaced now v.config r → IsReady past v r floor j → IsReady now v r floor j
@@ -225,6 +229,7 @@ ready_elsewhere past now v r floor j placed ready = record {
   newest = ready.newest;
   near = ready.near;
   last = ready.last;
+  kept = ready.kept;
 }
 
 pub ready_higher : (past : Past) (v : RingValue) (r : ℕ → Place) (floor higher : ℕ) (j : ℕ → Record) → floor ≤ higher → IsReady past v r floor j → IsReady past v r higher j
@@ -245,6 +250,7 @@ ready_higher past v r floor higher j le ready = record {
   newest = ready.newest;
   near = ready.near;
   last = ready.last;
+  kept = ready.kept;
 }
 
 pub order_backed : (c : Config) (s : RingState) (uniq : ℕ) → IsInOrder c s → IsInOrder c (with_backed uniq s)

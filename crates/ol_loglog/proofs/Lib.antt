@@ -1,6 +1,8 @@
 pub mod Told
 pub mod Steps
 pub mod Spelled
+pub mod FoundPages
+pub mod HeadLaws
 pub mod Kept
 pub mod Opening
 pub mod Readies

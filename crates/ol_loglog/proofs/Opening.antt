@@ -31,6 +31,7 @@ use Rattle.ol_log_state.proofs.NextLaws.{other_file}
 use Rattle.ol_ports.specs.Disk.{Past}
 use Rattle.ol_loglog.specs.RingValue.{first_unwritten, ring_value}
 use Rattle.ol_loglog.specs.Ready.{IsInOrder, IsReady}
+use Rattle.ol_loglog.proofs.HeadLaws.{Keeps, keeps_run, none_lost}
 use Rattle.ol_loglog.proofs.Steps.{found_map, found_passes, last_snoc, of_map, same_number, some_same}
 
 -- ---- lists of uses
@@ -418,6 +419,14 @@ module _ (c : Config) (r : ℕ → Place) (j : ℕ → Record) (floor upto : ℕ
               ],
             )
 
+  kept_opened : Keeps c r none_lost (opened c start r).files.uses
+  unfolding AllStand
+  kept_opened = by_run (run_or_none c r (log_pages c) log.orderly)
+    where
+      by_run : ((run ≡ []) × ((p : LogPage) → Stands r (log_pages c) p → ⊥)) ⊎ ((low high : ℕ) × IsRun c r (log_pages c) run low high) → Keeps c r none_lost (opened c start r).files.uses
+      by_run (inl none) = keeps_run c r run [] (subst (AllStand c r (log_pages c)) (sym none.0) tt) tt
+      by_run (inr (low, high, is)) = keeps_run c r run [] is.stand tt
+
   module _ (near : IsNear c r (first_uniq start) upto) (next : upto ≡ start.next) where
     pub ready_opened : (past : Past) (gates : List Bool) → IsPlaced past c r → GatesAre gates r → IsReady past (ring_value c (opened c start r) gates) r floor j
     ready_opened past gates placed are = record {
@@ -431,6 +440,7 @@ module _ (c : Config) (r : ℕ → Place) (j : ℕ → Record) (floor upto : ℕ
       newest = λ p s. newest_opened p s;
       near = subst (IsNear c r (opened c start r).files.uniq) (let e : upto ≡ first_unwritten (opened c start r) = omega (arith, next) in e) (λ p s end. near_opened p s end (near p s end));
       last = λ p u s end is. last_opened p s (omega (arith, end, next)) u is;
+      kept = kept_opened;
     }
 
     -- ---- the ring is in order

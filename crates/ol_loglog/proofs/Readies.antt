@@ -1,5 +1,5 @@
 -- When the disk is as the ring has it: how closing a file, writing a page and buffering a record keep it so.
-use Rattle.std.specs.Prelude.{Bool, if◌then◌else◌, slice_get, Err, List, Ok, OnOk, Result, Some, [], false, is_some, length, true, ℕ, ◌⊎◌, ◌*◌, ◌++◌, ◌+◌, ◌-◌, ◌<◌, ◌∷◌, ◌≡◌, ◌≢◌, ◌≤◌}
+use Rattle.std.specs.Prelude.{Bool, if◌then◌else◌, slice_get, Err, List, Ok, OnOk, Result, Some, [], false, is_some, length, true, ℕ, ◌&&◌, ◌==◌, ◌⊎◌, ◌*◌, ◌++◌, ◌+◌, ◌-◌, ◌<◌, ◌∷◌, ◌≡◌, ◌≢◌, ◌≤◌}
 use Rattle.std.proofs.Common.{ap, arith, inl, inr, refl, subst, sym, ⊎_elim, ◌∙◌, length-append}
 use Rattle.std.proofs.lemmas.Bool.{cases_eq}
 use Rattle.std.proofs.lemmas.List.FromFn.{map-range_with_len_more}
@@ -19,8 +19,9 @@ use Rattle.ol_log_places.proofs.WriteLaws.{file_in, with_other, with_same, witho
 use Rattle.ol_log_state.specs.Files.{current_use, log_config, next_page, ring_in}
 use Rattle.ol_log_state.specs.RingState.{RingState, buffered, page_to_write, ring_of, turned}
 use Rattle.ol_loglog.specs.RingValue.{IsInLimits, first_unwritten, flushed_state, ring_value}
-use Rattle.ol_loglog.specs.Ready.{IsNextShut, IsReady, next_file}
-use Rattle.ol_loglog.proofs.Steps.{Stepped, forms, next_is, number_between, number_form, stepped}
+use Rattle.ol_loglog.specs.Ready.{IsNextShut, IsReady, IsReadyBut, is_entered, next_file}
+use Rattle.ol_loglog.proofs.HeadLaws.{keeps_less, keeps_placed, keeps_turned}
+use Rattle.ol_loglog.proofs.Steps.{Stepped, forms, next_is, number_between, number_form, same_number, stepped}
 
 pub ok_both : {T E : Type 0} {A B C : Type 0} (result : Result T E) → (A → B → C) → OnOk result A → OnOk result B → OnOk result C
 ok_both (Ok x) f a b = f a b
@@ -38,7 +39,7 @@ without_stands c file r n p s = record { place = s.place; within = s.within; is 
     by_file true in_it = absurd (let clash : Closed ≡ Open p = sym (without_in c file r s.place in_it) ∙ s.is in cc)
     by_file false out = sym (without_out c file r s.place out) ∙ s.is
 
-module _ (c : Config) (s : RingState) (gates : List Bool) (past : Past) (r : ℕ → Place) (floor : ℕ) (j : ℕ → Record) (ready : IsReady past (ring_value c s gates) r floor j) where
+module _ (lost : ℕ → Bool) (c : Config) (s : RingState) (gates : List Bool) (past : Past) (r : ℕ → Place) (floor : ℕ) (j : ℕ → Record) (ready : IsReadyBut lost past (ring_value c s gates) r floor j) where
   -- ---- the number of the next page
 
   pub near_next : IsNear c r (next_page s.files).uniq (first_unwritten s)
@@ -54,8 +55,24 @@ module _ (c : Config) (s : RingState) (gates : List Bool) (past : Past) (r : ℕ
 
   -- ---- a file is closed
 
-  pub ready_closed : (new : Past) (now : List Bool) (file : ℕ) → IsFreeFile c floor file r → IsPlaced new c (without_file c file r) → GatesAre now (without_file c file r) → IsReady new (ring_value c s now) (without_file c file r) floor j
-  ready_closed new now file free placed are = record {
+  pub stand : StandAtPlaces c r
+  stand k p lt is = places_stand c (seen past) k p lt (ready.placed.each (seen past) (rest-seen past) k lt ∙ is)
+
+  -- a page of another file than the one that is entered stays where that is closed
+  other_stays : (file : ℕ) → file ≡ next_file c s → (next_page s.files).enters ≡ true → (p : LogPage) → is_entered c s (file_of c p.uniq) ≡ false → Stands r (log_pages c) p → Stands (without_file c file r) (log_pages c) p
+  other_stays file next enters p apart t = record { place = t.place; within = t.within; is = by_file (is_in_file c file t.place) refl }
+    where
+      by_file : (b : Bool) → is_in_file c file t.place ≡ b → without_file c file r t.place ≡ Open p
+      by_file false out = without_out c file r t.place out ∙ t.is
+      by_file true in_it =
+          let its = stand t.place p t.within t.is in
+          let same = there_file c t.place file p its.0 its.1 in_it ∙ next in
+          let here : is_entered c s (file_of c p.uniq) ≡ true = ap (λ b. b && (file_of c p.uniq == next_file c s)) enters ∙ ap (λ n. n == next_file c s) same ∙ same_number (next_file c s) in
+          absurd (let clash : true ≡ false = sym here ∙ apart in cc)
+
+  pub ready_closed : (new : Past) (now : List Bool) (file : ℕ) → file ≡ next_file c s → (next_page s.files).enters ≡ true → ((other : ℕ) → is_entered c s other ≡ false → lost other ≡ false) → IsFreeFile c floor file r → IsPlaced new c (without_file c file r) → GatesAre now (without_file c file r)
+      → IsReadyBut (is_entered c s) new (ring_value c s now) (without_file c file r) floor j
+  ready_closed new now file next enters le free placed are = record {
     placed = placed;
     gates = are;
     logged = thinned_logged c floor r (without_file c file r) (free_thinned c floor file r free) j (first_unwritten s) ready.logged;
@@ -66,15 +83,29 @@ module _ (c : Config) (s : RingState) (gates : List Bool) (past : Past) (r : ℕ
     newest = λ p t. ready.newest p (without_stands c file r (log_pages c) p t);
     near = λ p t end. ready.near p (without_stands c file r (log_pages c) p t) end;
     last = λ p u t end is. ready.last p u (without_stands c file r (log_pages c) p t) end is;
+    kept = keeps_placed c r (without_file c file r) (is_entered c s) s.files.uses (λ p apart t. other_stays file next enters p apart t) (keeps_less c r lost (is_entered c s) s.files.uses le ready.kept);
+  }
+
+  -- no file is entered
+  pub ready_beside : ((other : ℕ) → is_entered c s other ≡ false → lost other ≡ false) → IsReadyBut (is_entered c s) past (ring_value c s gates) r floor j
+  ready_beside le = record {
+    placed = ready.placed;
+    gates = ready.gates;
+    logged = ready.logged;
+    buffer = ready.buffer;
+    alone = ready.alone;
+    current = ready.current;
+    told = ready.told;
+    newest = ready.newest;
+    near = ready.near;
+    last = ready.last;
+    kept = keeps_less c r lost (is_entered c s) s.files.uses le ready.kept;
   }
 
   pub closing_holds : (file : ℕ) → IsFreeFile c floor file r → (d : Bytes) → MayBeClosed c r file d → HoldsLog c j floor (first_unwritten s) (first_unwritten s) (next_page s.files).uniq d
   closing_holds file free d may = holds_file c r j floor (first_unwritten s) (next_page s.files).uniq file d free ready.logged near_next may
 
   -- ---- the next page
-
-  pub stand : StandAtPlaces c r
-  stand k p lt is = places_stand c (seen past) k p lt (ready.placed.each (seen past) (rest-seen past) k lt ∙ is)
 
   in_file_of : (file : ℕ) (q : LogPage) (t : Stands r (log_pages c) q) → file_of c q.uniq ≡ file → is_in_file c file t.place ≡ true
   in_file_of file q t same = let at = stand t.place q t.within t.is in file_there c t.place file q at.0 at.1 same
@@ -163,8 +194,12 @@ module _ (c : Config) (s : RingState) (gates : List Bool) (past : Past) (r : ℕ
                       let le = ready.logged.covers.last q old in
                       (next.0, next.1, ⊎_elim (λ same. (let e = ap last_position same in omega (arith, e, was.2))) (λ end. omega (arith, end, le, limits.first, some)) next.2)
 
-              pub ready_put : (new : Past) (now : List Bool) → IsPlaced new c (with_page r k (page_to_write s)) → GatesAre now (with_page r k (page_to_write s)) → IsReady new (ring_value c (turned s) now) (with_page r k (page_to_write s)) floor j
-              ready_put new now placed are = record {
+              -- pages that stood stand, beside the new one
+              old_stays : (p : LogPage) → Stands r (log_pages c) p → Stands (with_page r k (page_to_write s)) (log_pages c) p
+              old_stays p t = record { place = t.place; within = t.within; is = with_other r k (page_to_write s) t.place (λ same. (let clash : Closed ≡ Open p = sym closed_there ∙ ap r (sym same) ∙ t.is in cc)) ∙ t.is }
+
+              pub ready_put : ((other : ℕ) → is_entered c s other ≡ false → lost other ≡ false) → (new : Past) (now : List Bool) → IsPlaced new c (with_page r k (page_to_write s)) → GatesAre now (with_page r k (page_to_write s)) → IsReady new (ring_value c (turned s) now) (with_page r k (page_to_write s)) floor j
+              ready_put le new now placed are = record {
                 placed = placed;
                 gates = are;
                 logged = subst (IsLogged c (with_page r k (page_to_write s)) j floor) (let e : end_of (page_to_write s) ≡ first_unwritten (turned s) = omega (arith, limits.first) in e) (put_logged c r j floor k (page_to_write s) next_is_next ready.logged);
@@ -175,7 +210,9 @@ module _ (c : Config) (s : RingState) (gates : List Bool) (past : Past) (r : ℕ
                 newest = λ q t. ⊎_elim (λ mine. (let e = ap (λ (p : LogPage). p.uniq) mine in omega (arith, e))) (λ old. (let le = ready.newest q old in let low = number.0 in omega (arith, le, low))) (either q t);
                 near = subst (IsNear c (with_page r k (page_to_write s)) (next_page s.files).uniq) (let e : end_of (page_to_write s) ≡ first_unwritten (turned s) = omega (arith, limits.first) in e)
                     (put_near c r j floor k (page_to_write s) (next_page s.files).uniq next_is_next ready.logged (omega arith));
-                last = λ q u t end is. ⊎_elim (λ mine. ap (λ (p : LogPage). p.uniq) mine) (λ old. absurd (let le = ready.logged.covers.last q old in omega (arith, le, end, limits.first, some))) (either q t);
+                last = λ q u t end is. ⊎_elim (λ mine. ap (λ (p : LogPage). p.uniq) mine) (λ old. absurd (let low = ready.logged.covers.last q old in omega (arith, low, end, limits.first, some))) (either q t);
+                kept = keeps_turned c s (with_page r k (page_to_write s)) area (page_to_write s, record { place = k; within = within; is = with_same r k (page_to_write s) }, refl, refl)
+                    (keeps_placed c r (with_page r k (page_to_write s)) (is_entered c s) s.files.uses (λ p apart t. old_stays p t) (keeps_less c r lost (is_entered c s) s.files.uses le ready.kept));
               }
 
 -- ---- nothing is buffered behind a flush
@@ -214,4 +251,5 @@ ready_buffered c s gates past r floor j rec first ready here =
       newest = ready.newest;
       near = subst (IsNear c r s.files.uniq) same ready.near;
       last = λ p u t end is. ready.last p u t (end ∙ sym same) is;
+      kept = ready.kept;
     }

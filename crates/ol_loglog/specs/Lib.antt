@@ -1,2 +1,3 @@
 pub mod RingValue
 pub mod Ready
+pub mod PageReads

@@ -1,8 +1,11 @@
 -- When what stands on the disk is as the ring has it.
-use Rattle.std.specs.Prelude.{Some, is_some, length, min, true, ℕ, ◌+◌, ◌-◌, ◌<◌, ◌==◌, ◌≡◌, ◌≤◌}
+use Rattle.std.specs.List.{AllByRecursion}
+use Rattle.std.specs.Prelude.{Bool, Some, false, is_some, length, min, true, ℕ, ◌&&◌, ◌+◌, ◌-◌, ◌<◌, ◌==◌, ◌≡◌, ◌≤◌}
 use Rattle.ol_values.specs.Config.{Config, log_pages}
 use Rattle.ol_values.specs.LogPages.{LogPage}
 use Rattle.ol_values.specs.declared.record.Record.{Record}
+use Rattle.ol_record.specs.LogPages.{head_of}
+use Rattle.ol_record.specs.declared.head.LogHead.{LogHead}
 use Rattle.ol_rules.specs.Ring.{Use, file_of, last_position, last_range, use_in_file}
 use Rattle.ol_ports.specs.Disk.{Past}
 use Rattle.ol_log_places.specs.Places.{Closed, IsPlaced, Place}
@@ -10,6 +13,7 @@ use Rattle.ol_log_places.specs.Runs.{IsLogged, IsNear, Stands, end_of, journal_a
 use Rattle.ol_log_places.specs.Writes.{GatesAre, IsFreeFile, is_in_file}
 use Rattle.ol_log_state.specs.Files.{current_use, next_page}
 use Rattle.ol_log_state.specs.RingState.{RingState, ring_of}
+use Rattle.ol_log_state.specs.Uses.{HeldUse}
 use Rattle.ol_loglog.specs.RingValue.{RingValue, first_unwritten}
 
 -- the file that the current unique number stands for
@@ -20,8 +24,20 @@ current_file v = file_of v.config v.state.files.uniq
 abbrev pub next_file : Config → RingState → ℕ
 next_file c s = file_of c (next_page s.files).uniq
 
--- what stands on the disk is as the ring has it, for a journal: what may be asked for begins at floor
-pub record IsReady (past : Past) (v : RingValue) (r : ℕ → Place) (floor : ℕ) (j : ℕ → Record) : Type 0 where
+-- a head of a use is that of a page of the use's number that stands
+abbrev pub HasItsPage : Config → (ℕ → Place) → ℕ → LogHead → Type 0
+HasItsPage c r uniq h = (p : LogPage) × Stands r (log_pages c) p × (p.uniq ≡ uniq) × (head_of p ≡ h)
+
+-- each head of a use is
+abbrev pub HasItsPages : Config → (ℕ → Place) → HeldUse → Type 0
+HasItsPages c r u = AllByRecursion (HasItsPage c r u.uniq) u.heads
+
+-- the file that the next page enters, where it enters one
+abbrev pub is_entered : Config → RingState → ℕ → Bool
+is_entered c s file = (next_page s.files).enters && (file == next_file c s)
+
+-- what stands on the disk is as the ring has it, for a journal, but for pages of lost files: what may be asked for begins at floor
+pub record IsReadyBut (lost : ℕ → Bool) (past : Past) (v : RingValue) (r : ℕ → Place) (floor : ℕ) (j : ℕ → Record) : Type 0 where
   pub placed : IsPlaced past v.config r
   pub gates : GatesAre v.gates r
   pub logged : IsLogged v.config r j floor (first_unwritten v.state)
@@ -37,6 +53,12 @@ pub record IsReady (past : Past) (v : RingValue) (r : ℕ → Place) (floor : �
   pub near : IsNear v.config r v.state.files.uniq (first_unwritten v.state)
   -- where a use of the current unique number stands in the ring, the last page has that number
   pub last : (p : LogPage) (u : Use) → Stands r (log_pages v.config) p → end_of p ≡ first_unwritten v.state → current_use v.state.files ≡ Some u → p.uniq ≡ v.state.files.uniq
+  -- each page that the ring has stands, with the head that the ring has
+  pub kept : AllByRecursion (λ (u : HeldUse). lost (file_of v.config u.uniq) ≡ false → HasItsPages v.config r u) v.state.files.uses
+
+-- no file is lost
+abbrev pub IsReady : Past → RingValue → (ℕ → Place) → ℕ → (ℕ → Record) → Type 0
+IsReady past v r floor j = IsReadyBut (λ file. false) past v r floor j
 
 -- where a record is buffered, and its page enters a file, each page there ends at or below floor
 abbrev pub IsNextFree : RingValue → (ℕ → Place) → ℕ → Type 0

@@ -3,6 +3,7 @@
 
 mod laws;
 mod pages;
+mod reading;
 mod ring;
 
 pub use laws::{
@@ -11,4 +12,5 @@ pub use laws::{
 };
 pub use ol_log_places::{ScanFault, Standing, Stood, scan};
 pub use ol_log_state::{NoMemory, RingStart, Use};
+pub use reading::LogReadFault;
 pub use ring::LogRing;

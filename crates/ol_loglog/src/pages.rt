@@ -16,7 +16,7 @@ ghost use Rattle.ol_log_places.specs.Writes.{GatesAre, IsShutFile, MayBeClosed, 
 ghost use Rattle.ol_log_state.specs.Files.{next_page};
 ghost use Rattle.ol_log_state.specs.RingState.{buffered, page_to_write, ring_of, turned};
 ghost use Rattle.ol_loglog.specs.RingValue.{HasRoom, IsInLimits, first_unwritten, flushed_state, logged_state, ring_value};
-ghost use Rattle.ol_loglog.specs.Ready.{IsInOrder, IsNextFree, IsNextShut, IsReady, next_file};
+ghost use Rattle.ol_loglog.specs.Ready.{IsInOrder, IsNextFree, IsNextShut, IsReady, IsReadyBut, is_entered, next_file};
 
 use ol_chunks::ChunkTable;
 use ol_log_places::{close_log_file, write_log_page};
@@ -100,7 +100,7 @@ fn enter_file<D: Disk>(
     ensures stops { D.tells → (r : ℕ → Place) (floor : ℕ) (j : ℕ → RecordValue) → IsReady (D.past disk.old) (ring_value table.now state.now gates.old.items) r floor j → IsNextFree (ring_value table.now state.now gates.old.items) r floor
         → Stops (D.past disk.old) (D.past disk.new) (HoldsLog table.now j floor (first_unwritten state.now) (first_unwritten state.now) (next_page state.now.files).uniq) }
     ensures ok { D.tells → (r : ℕ → Place) (floor : ℕ) (j : ℕ → RecordValue) → IsReady (D.past disk.old) (ring_value table.now state.now gates.old.items) r floor j → IsNextFree (ring_value table.now state.now gates.old.items) r floor
-        → OnOk result ((s : ℕ → Place) × IsReady (D.past disk.new) (ring_value table.now state.now gates.new.items) s floor j × IsNextShut table.now state.now s) }
+        → OnOk result ((s : ℕ → Place) × IsReadyBut (is_entered table.now state.now) (D.past disk.new) (ring_value table.now state.now gates.new.items) s floor j × IsNextShut table.now state.now s) }
     ensures frame { D.tells → Stops (D.past disk.old) (D.past disk.new) (FramedIn (D.past disk.old) (in_log table.now)) }
     ensures reads { D.tells → OnOk result (ReadsOutside (D.past disk.old) (D.past disk.new) (in_log table.now)) }
     ensures sizes { D.sizes disk.new ≡ D.sizes disk.old }
@@ -134,9 +134,9 @@ fn write_buffered_page<D: Disk>(
     ensures area { state.new.files.area ≡ log_area table.now }
     ensures limits { IsInLimits state.new }
     ensures count { length gates.new.items ≡ length gates.old.items }
-    ensures stops { D.tells → (r : ℕ → Place) (floor : ℕ) (j : ℕ → RecordValue) → IsReady (D.past disk.old) (ring_value table.now state.old gates.old.items) r floor j → IsNextShut table.now state.old r
+    ensures stops { D.tells → (r : ℕ → Place) (floor : ℕ) (j : ℕ → RecordValue) → IsReadyBut (is_entered table.now state.old) (D.past disk.old) (ring_value table.now state.old gates.old.items) r floor j → IsNextShut table.now state.old r
         → Stops (D.past disk.old) (D.past disk.new) (HoldsLog table.now j floor (first_unwritten state.old) state.old.next (next_page state.old.files).uniq) }
-    ensures ok { D.tells → (r : ℕ → Place) (floor : ℕ) (j : ℕ → RecordValue) → IsReady (D.past disk.old) (ring_value table.now state.old gates.old.items) r floor j → IsNextShut table.now state.old r
+    ensures ok { D.tells → (r : ℕ → Place) (floor : ℕ) (j : ℕ → RecordValue) → IsReadyBut (is_entered table.now state.old) (D.past disk.old) (ring_value table.now state.old gates.old.items) r floor j → IsNextShut table.now state.old r
         → OnOk result ((s : ℕ → Place) × IsReady (D.past disk.new) (ring_value table.now state.new gates.new.items) s floor j) }
     ensures frame { D.tells → Stops (D.past disk.old) (D.past disk.new) (FramedIn (D.past disk.old) (in_log table.now)) }
     ensures reads { D.tells → OnOk result (ReadsOutside (D.past disk.old) (D.past disk.new) (in_log table.now)) }

@@ -3,7 +3,7 @@
 ghost use Rattle.std.specs.List.{AllByRecursion};
 ghost use Rattle.std.specs.Bool.{OnFalse};
 ghost use Rattle.std.specs.Option.{option_map};
-ghost use Rattle.std.specs.Prelude.{◌≡◌, ◌<◌, ◌≤◌, ◌+◌, ◌*◌, ◌-◌, ◌^◌, [], IfOk, IfSome, List, OnOk, is_some, length, slice_get, ℕ};
+ghost use Rattle.std.specs.Prelude.{◌≡◌, ◌<◌, ◌≤◌, ◌+◌, ◌*◌, ◌-◌, ◌^◌, [], IfOk, IfSome, IsErrOf, List, OnOk, is_some, length, slice_get, ℕ};
 ghost use Rattle.ol_values.specs.declared.record.Record.{Record as RecordValue};
 ghost use Rattle.ol_values.specs.Config.{log_pages};
 ghost use Rattle.ol_values.specs.Spelling.{KeepsRules};
@@ -11,7 +11,7 @@ ghost use Rattle.ol_rules.specs.DiskValue.{AnchorValue, OpenLog, ring_found};
 ghost use Rattle.ol_rules.specs.Ring.{blocker, file_of, flushed, free, free_after_switch, is_reusable, logged, page_of, room, switched_off, to_back_up, use_numbered};
 ghost use Rattle.ol_chunks.specs.Places.{log_area};
 ghost use Rattle.ol_ports.specs.Causes.{HasChunkCause};
-ghost use Rattle.ol_ports.specs.Disk.{Past};
+ghost use Rattle.ol_ports.specs.Disk.{Past, page_list, seen};
 ghost use Rattle.ol_ports.specs.Frames.{FramedIn, ReadsOutside};
 ghost use Rattle.ol_ports.specs.Stops.{Stops};
 ghost use Rattle.ol_log_places.specs.Places.{HasLog, Place, in_log};
@@ -22,13 +22,16 @@ ghost use Rattle.ol_log_state.specs.StoredFiles.{heads_in};
 ghost use Rattle.ol_log_places.specs.Heads.{IsInRun};
 ghost use Rattle.ol_log_state.specs.Uses.{range_of_head};
 ghost use Rattle.ol_loglog.specs.RingValue.{HasRoom, IsLogRing, first_unwritten, flushed_state, logged_state, ring_value, with_state};
+ghost use Rattle.ol_loglog.specs.PageReads.{HasReadCause, HoldsPage, IsBadAt, IsPageOf};
 ghost use Rattle.ol_loglog.specs.Ready.{IsFloor, IsInOrder, IsNextFree, IsReady};
 
 use crate::pages::{append_record, flush_page};
+use crate::reading::{LogReadFault, read_page};
 use ol_chunks::{Area, ChunkTable};
 use ol_log_places::{Standing, Stood};
 use ol_log_state::{LogState, NoMemory, RingStart, Use};
 use ol_ports::{Disk, Failed};
+use ol_record::PAGE_LENGTH;
 use ol_values::Record;
 use std::alloc::Global;
 use std::marker::Model;
@@ -188,6 +191,39 @@ impl LogRing {
         ensures { result ≡ option_map (λ s. (s.chunk, s.page)) (stood_holding self.now.state position) }
     {
         self.state.page_of(position)
+    }
+
+    /// Reads the written page that holds a position into the buffer. `None` comes exactly where no written page of a use that
+    /// stands in the ring holds it. It takes no memory.
+    ///
+    /// `Bad` names that page where its bytes are no log page, or one with another unique number, index, first position or count
+    /// than the ring has there; over a disk that is as the ring has it, it never comes. `Failed` comes only where the count of
+    /// faults of the log's chunk rose; the buffer may then hold anything.
+    pub fn read<D: Disk>(
+        &self,
+        disk: &mut D,
+        position: u64,
+        buf: &mut [u8; PAGE_LENGTH],
+    ) -> Result<Option<Stood>, LogReadFault>
+        requires { HasLog self.now.config (D.sizes disk.old) }
+        ensures none { IfOk result (λ found. found ≡ stood_holding self.now.state position) }
+        ensures page { IfOk result (λ found. IfSome found (λ s. IsPageOf s.head buf.new)) }
+        ensures bytes { D.tells → IfOk result (λ found. IfSome found (λ s. buf.new ≡ page_list (seen (D.past disk.old)) s.chunk s.page)) }
+        // The buffer has the page that stands, with the records of the journal.
+        ensures content { D.tells → (r : ℕ → Place) (floor : ℕ) (j : ℕ → RecordValue) → IsReady (D.past disk.old) self.now r floor j → IfOk result (λ found. IfSome found (λ s. HoldsPage self.now.config r j s.head buf.new)) }
+        ensures good { D.tells → (r : ℕ → Place) (floor : ℕ) (j : ℕ → RecordValue) → IsReady (D.past disk.old) self.now r floor j → (chunk page : ℕ) → IsErrOf result (LogReadFault.Bad chunk page) → ⊥ }
+        ensures bad { (chunk page : ℕ) → IsErrOf result (LogReadFault.Bad chunk page) → IsBadAt self.now.state position chunk page buf.new × (D.tells → buf.new ≡ page_list (seen (D.past disk.old)) chunk page) }
+        ensures past { D.tells → D.past disk.new ≡ D.past disk.old }
+        ensures sizes { D.sizes disk.new ≡ D.sizes disk.old }
+        ensures cause { HasReadCause (log_area self.now.config).chunk (D.fault_counts disk.old) (D.fault_counts disk.new) result }
+    {
+        match self.state.stood(position) {
+            Some(stood) => match read_page(disk, stood, buf) {
+                Ok(()) => Ok(Some(stood)),
+                Err(fault) => Err(fault),
+            },
+            None => Ok(None),
+        }
     }
 
     /// Closes the current file. No record is buffered.

@@ -1,6 +1,9 @@
 -- How a command ends of which no count of faults rose: well, or for want of memory.
 use Rattle.std.specs.Prelude.{Err, List, Ok, Option, Result, Some, [], length, refl, take, ℕ, ◌∷◌, ◌≡◌, ◌≤◌}
 use Rattle.std.proofs.Common.{arith, inl, inr, subst, sym, ◌∙◌}
+use Rattle.ol_anchor_opening.specs.Opening.{IsOpenable, IsReadOf}
+use Rattle.ol_anchor_opening.specs.declared.anchor.AnchorFault.{AnchorFault}
+use Rattle.ol_anchor_opening.specs.declared.anchor.AnchorFault.TheVariants.{BadDisk as Damaged, Blank as BlankPair, DiskFault as AnchorDisk, Restoring as BeingRestored, TooSmall as SmallChunk}
 use Rattle.ol_chunks.specs.Reading.{config_in_text}
 use Rattle.ol_format.specs.First.{AreLarge, IsFirstSmall, chunks_of}
 use Rattle.ol_values.specs.Config.{Config}
@@ -12,7 +15,6 @@ use Rattle.ol_ports.specs.Drive.{capacity}
 use Rattle.ol_reserve.specs.declared.anchor.Anchor.{Anchor}
 use Rattle.ol_script.specs.Script.{script_of}
 use Rattle.ol_volume.specs.Written.{Written}
-use Rattle.ol_online.specs.declared.status.NotReady.TheVariants.{Blank, Restoring}
 use Rattle.ol_online.specs.declared.status.Status.{Status}
 use Rattle.ol_online.specs.declared.status.Status.TheVariants.{BadConfig, BadDisk, BadScript, BadWords, DiskFault, NoMemory, NotReady, Ok as Done, OutOfTape, ReadFault, TapeFault, TooSmall, WriteFault}
 use Rattle.ol_online.specs.declared.told.Told.{Told}
@@ -21,7 +23,7 @@ use Rattle.ol_online.specs.declared.words.Verb.TheVariants.{Init, Play}
 use Rattle.ol_online.specs.Calm.{FormatsCalmly, HasTape, IsSoundPlay, IsWell, PlaysCalmly}
 use Rattle.ol_online.specs.Command.{EndsPlayed, EndsScript, EndsUnplayed, EndsWork, IsInit, IsPlayed, IsPrepared, IsReported, PlayedTo, archive_line_in, history_in, status_of_init}
 use Rattle.ol_online.specs.Initing.{EndsInit, config_limit}
-use Rattle.ol_online.specs.Opening.{HasStatusCause, IsOpened, OpensTable}
+use Rattle.ol_online.specs.Opening.{HasStatusCause, opened_of}
 use Rattle.ol_online.specs.Playing.{due, journal_after}
 use Rattle.ol_online.specs.Views.{Change, DiskView, SinkView, SourceView, bytes_on}
 
@@ -59,29 +61,29 @@ calm_script left bytes lines before after WriteFault is reads calm e = absurd e
 calm_script left bytes lines before after (TapeFault drive) is reads calm e = absurd e
 calm_script left bytes lines before after (OutOfTape drive) is reads calm e = absurd e
 
-calm_opening : (sizes : ℕ → ℕ) (a : Anchor) (c : Config) (status : Status) → OpensTable sizes a (Ok c) → ((chunk : ℕ) → status ≡ DiskFault chunk → ⊥) → IsOpened sizes a (Err status) → status ≡ NoMemory
-calm_opening sizes a c (TooSmall chunk) (on_line, reads, large) no_disk (other, state, text, first) =
-    let same : other ≡ c = cc in absurd (no_small sizes c chunk large (subst (λ (x : Config). IsFirstSmall sizes x chunk) same first))
-calm_opening sizes a c (NotReady Restoring) good no_disk o = absurd (omega (arith, good.0, o))
-calm_opening sizes a c (NotReady Blank) good no_disk o = absurd o
-calm_opening sizes a c (DiskFault chunk) good no_disk o = absurd (no_disk chunk refl)
-calm_opening sizes a c (BadDisk chunk page) good no_disk o = absurd o
-calm_opening sizes a c NoMemory good no_disk o = absurd o
-calm_opening sizes a c Done good no_disk o = absurd o
-calm_opening sizes a c BadWords good no_disk o = absurd o
-calm_opening sizes a c (BadScript line) good no_disk o = absurd o
-calm_opening sizes a c (BadConfig line) good no_disk o = absurd o
-calm_opening sizes a c ReadFault good no_disk o = absurd o
-calm_opening sizes a c WriteFault good no_disk o = absurd o
-calm_opening sizes a c (TapeFault drive) good no_disk o = absurd o
-calm_opening sizes a c (OutOfTape drive) good no_disk o = absurd o
+-- a disk that may be opened is refused for a fault alone
+calm_opening : (sizes : ℕ → ℕ) (a : Anchor) (c : Config) (status : Status) (read : Result (Anchor × Config) AnchorFault) → IsOpenable sizes a c → ((chunk : ℕ) → status ≡ DiskFault chunk → ⊥)
+    → (let r : Result Config Status = Err status in r) ≡ opened_of read → IsReadOf sizes a read → ⊥
+calm_opening sizes a c status (Ok r) good no_disk is o = cc
+calm_opening sizes a c status (Err (SmallChunk chunk)) (on_line, reads, large) no_disk is (other, state, text, first) =
+    let same : other ≡ c = cc in no_small sizes c chunk large (subst (λ (x : Config). IsFirstSmall sizes x chunk) same first)
+calm_opening sizes a c status (Err BeingRestored) good no_disk is o = omega (arith, good.0, o)
+calm_opening sizes a c status (Err BlankPair) good no_disk is o = o
+calm_opening sizes a c status (Err (Damaged chunk page)) good no_disk is o = o
+calm_opening sizes a c status (Err (AnchorDisk chunk)) good no_disk is o = no_disk chunk cc
+
+-- what is opened is the configuration of the anchor
+calm_opened : (sizes : ℕ → ℕ) (a : Anchor) (c found : Config) (read : Result (Anchor × Config) AnchorFault) → IsOpenable sizes a c
+    → (let r : Result Config Status = Ok found in r) ≡ opened_of read → IsReadOf sizes a read → found ≡ c
+calm_opened sizes a c found (Ok r) good is o = (let one = o.1.1 in let two = good.1 in cc)
+calm_opened sizes a c found (Err fault) good is o = cc
 
 -- what was read, opened and planned is that script, configuration and plan
 prepared_is : (source : SourceView) (tells : Type 0) (disk : DiskView) (lines : List Line) (c : Config) (n : ℕ) (given : List Line) (found : Config) (plan : Result ℕ ℕ)
     → IsSoundPlay source tells disk lines c n → IsPrepared source.left tells (bytes_on disk) disk.sizes given found plan → (given ≡ lines) × (found ≡ c) × (plan ≡ Ok n)
 prepared_is source tells disk lines c n given found plan p q =
     let read : given ≡ lines = (let first = q.says p.bytes p.left in let second = p.script in cc) in
-    let opened : found ≡ c = (let first = q.opens.only p.told p.low p.anchor p.newest in let one = first.1 in let two = p.opens.1 in cc) in
+    let opened : found ≡ c = calm_opened disk.sizes p.anchor c found q.opens.read p.opens q.opens.answer (q.opens.ended.only p.told p.low p.anchor p.newest) in
     (read, opened, (let first = q.plans in let second = p.plans in cc))
 
 calm_unplayed : (reads : Change SourceView) (tells : Type 0) (disk : DiskView) (lines : List Line) (c : Config) (n : ℕ) (status : Status)
@@ -90,7 +92,7 @@ calm_unplayed : (reads : Change SourceView) (tells : Type 0) (disk : DiskView) (
 calm_unplayed reads tells disk lines c n status p calm no_disk (inl e) =
     calm_script reads.old.left p.bytes lines reads.old.faults reads.new.faults status p.left p.script calm e
 calm_unplayed reads tells disk lines c n status p calm no_disk (inr (inl (given, says, opens))) =
-    calm_opening disk.sizes p.anchor c status p.opens no_disk (opens.only p.told p.low p.anchor p.newest)
+    absurd (calm_opening disk.sizes p.anchor c status opens.read p.opens no_disk opens.answer (opens.ended.only p.told p.low p.anchor p.newest))
 calm_unplayed reads tells disk lines c n status p calm no_disk (inr (inr (given, found, bad, prepared, is))) =
     let same = (prepared_is reads.old tells disk lines c n given found (Err bad) p prepared).2 in cc
 

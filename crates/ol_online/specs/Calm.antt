@@ -1,5 +1,6 @@
 -- What a command needs, besides memory, to end well.
 use Rattle.std.specs.Prelude.{List, Ok, Some, length, take, ℕ, ◌≡◌, ◌≤◌, ◌⊎◌}
+use Rattle.ol_anchor_opening.specs.Opening.{IsOpenable}
 use Rattle.ol_chunks.specs.Reading.{config_in_text}
 use Rattle.ol_format.specs.First.{AreLarge, chunks_of}
 use Rattle.ol_ports.specs.Causes.{IsCalm}
@@ -13,7 +14,6 @@ use Rattle.ol_values.specs.declared.line.Line.{Line}
 use Rattle.ol_volume.specs.Written.{Written}
 use Rattle.ol_online.specs.Command.{archive_line_in}
 use Rattle.ol_online.specs.Initing.{config_limit}
-use Rattle.ol_online.specs.Opening.{OpensTable}
 use Rattle.ol_online.specs.Planning.{lines_planned}
 use Rattle.ol_online.specs.Playing.{due, journal_after}
 use Rattle.ol_online.specs.Views.{Change, DiskView, SinkView, SourceView, bytes_on}
@@ -33,7 +33,7 @@ pub record IsSoundPlay (source : SourceView) (tells : Type 0) (disk : DiskView) 
   pub anchor : Anchor
   pub newest : Newest (bytes_on disk) (Some anchor)
   pub low : AreLow (bytes_on disk)
-  pub opens : OpensTable disk.sizes anchor (Ok c)
+  pub opens : IsOpenable disk.sizes anchor c
   pub plans : lines_planned c lines ≡ Ok n
 
 -- the source has a configuration whose chunks are there

@@ -86,7 +86,7 @@ number_low v is =
 pub log_beside : (past : Past) (v : Installation) (g : Behind) (l : IsLogStored past v g) → (is_part : ℕ → ℕ → Bool) → ((chunk page : ℕ) → in_log (config_of v) chunk page ≡ true → is_part chunk page ≡ false) → (d : Bytes) → FramedIn past is_part d
     → HoldsLog (config_of v) (record_at g) l.floor (first_unwritten v.ring.state) (first_unwritten v.ring.state) (next_number v) d
 log_beside past v g l is_part apart d f =
-    holds_none (config_of v) l.places (record_at g) l.floor (first_unwritten v.ring.state) (next_number v) d l.ready.logged (near_next v.ring.config v.ring.state v.ring.gates past l.places l.floor (record_at g) l.ready)
+    holds_none (config_of v) l.places (record_at g) l.floor (first_unwritten v.ring.state) (next_number v) d l.ready.logged (near_next _ v.ring.config v.ring.state v.ring.gates past l.places l.floor (record_at g) l.ready)
     (others_shown past (config_of v) l.places (λ chunk page i. is_part chunk page) d (λ chunk page i in_it. apart chunk page in_it) l.ready.placed f)
 
 -- and between calls

@@ -11,4 +11,5 @@ pub mod Checkpoints
 pub mod Anchors
 pub mod Quiet
 pub mod Lifting
+pub mod LogReads
 pub mod Lists

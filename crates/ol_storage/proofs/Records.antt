@@ -65,6 +65,7 @@ ready_same past v r floor i j long same is = record {
   newest = is.newest;
   near = is.near;
   last = is.last;
+  kept = is.kept;
   logged = logged_same v.config r i j floor (first_unwritten v.state) (λ position to. same position (omega (arith, to, long))) is.logged;
   buffer = is.buffer ∙ sym (journal_same i j (first_unwritten v.state) (length v.state.buffer) (λ position from to. same position (omega (arith, to, long))));
 }

@@ -2,7 +2,8 @@
 use Rattle.std.specs.Prelude.{Bool, List, None, Option, Some, false, option_map, ℕ, ◌+◌, ◌-◌, ◌<◌, ◌≡◌, ◌≤◌}
 use Rattle.ol_values.specs.declared.record.Record.{Record}
 use Rattle.ol_values.specs.Config.{Config, config_text}
-use Rattle.ol_rules.specs.Ring.{Reuse, Use, to_back_up}
+use Rattle.ol_rules.specs.Ring.{Reuse, Ring, Use, to_back_up}
+use Rattle.ol_rules.specs.Ring.{flushed as flushed_ring}
 use Rattle.ol_reserve.specs.Anchor.{IsAnchor}
 use Rattle.ol_reserve.specs.declared.anchor.Anchor.{Anchor}
 use Rattle.ol_log_places.specs.Places.{HasLog}
@@ -85,9 +86,19 @@ appended v r gates = with_reached (with_ring v (logged_state r v.ring.state) gat
 abbrev pub flushed : Installation → List Bool → Installation
 flushed v gates = with_store (with_ring v (flushed_state v.ring.state) gates) (with_flushed v.store (last_of v))
 
--- the oldest dirty page is cleaned behind a flush
+-- a dirty page is cleaned behind a flush
+abbrev pub flushed_and_cleaned : Installation → List Bool → Option (ℕ × ℕ) → Installation
+flushed_and_cleaned v gates place = with_store (flushed v gates) (cleaned_of (with_flushed v.store (last_of v)) place)
+
+-- the same, where there is a dirty page; else nothing is done
 abbrev pub cleaned : Installation → List Bool → Option (ℕ × ℕ) → Installation
-cleaned v gates place = with_store (flushed v gates) (cleaned_of (with_flushed v.store (last_of v)) place)
+cleaned v gates None = v
+cleaned v gates (Some place) = flushed_and_cleaned v gates (Some place)
+
+-- the ring behind that
+abbrev pub cleaned_ring : Installation → Option (ℕ × ℕ) → Ring
+cleaned_ring v None = ring_of v.ring.state
+cleaned_ring v (Some place) = flushed_ring (config_of v) (ring_of v.ring.state) (last_of v)
 
 -- another anchor
 abbrev pub with_anchor : Installation → Anchor → Installation

@@ -5,3 +5,4 @@ pub mod Storing
 pub mod Causes
 pub mod Journals
 pub mod Operations
+pub mod LogReads

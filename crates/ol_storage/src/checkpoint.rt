@@ -1,7 +1,9 @@
 //! The checkpoint of a storage.
 
-ghost use Rattle.std.specs.Prelude.{◌≡◌, ◌<◌, ◌≤◌, ◌+◌, ◌^◌, [], OnErr, OnOk, false, true, ℕ};
+ghost use Rattle.std.specs.Prelude.{◌≡◌, ◌<◌, ◌≤◌, ◌+◌, ◌^◌, [], IfErr, OnErr, OnOk, false, true, ℕ};
+ghost use Rattle.ol_rules.specs.Ring.{flushed as flushed_ring};
 ghost use Rattle.ol_rules.specs.Start.{low_behind, upto};
+ghost use Rattle.ol_log_state.specs.RingState.{ring_of};
 ghost use Rattle.ol_ports.specs.Stops.{Stops};
 ghost use Rattle.ol_data_pages.specs.Places.{HasNoMark};
 ghost use Rattle.ol_loglog.specs.RingValue.{HasRoom};
@@ -30,10 +32,12 @@ impl<D: Disk> Storage<D> {
         requires low { (self.old.now.ring.state.files.uniq < 2 ^ 62) × (self.old.now.anchor.serial < 2 ^ 62) × (self.old.now.anchor.generation < 2 ^ 62) }
         requires archive { next_archive ≤ 2 ^ 62 }
         ensures step { OnOk result (self.new.now ≡ checkpointed self.old.now need next_archive self.new.now.ring.gates) }
+        ensures ring { OnOk result (ring_of self.new.now.ring.state ≡ flushed_ring (config_of self.old.now) (ring_of self.old.now.ring.state) (last_of self.old.now)) }
         ensures stops { D.tells → (g : Behind) → IsStored (D.past self.old.disk) self.old.now g → need ≡ low_behind g.start (upto g.start g.records g.reached)
             → Stops (D.past self.old.disk) (D.past self.new.disk) (StandsBetween (config_of self.old.now) g self.old.now.anchor (checkpointed self.old.now need next_archive []).anchor (flushed_of self.old.now) (last_of self.old.now)) }
         ensures stored { D.tells → (g : Behind) → IsStored (D.past self.old.disk) self.old.now g → need ≡ low_behind g.start (upto g.start g.records g.reached) → OnOk result (IsStored (D.past self.new.disk) self.new.now g) }
         ensures stopped { OnErr result (self.new.now.stopped ≡ true) }
+        ensures only { IfErr result (λ fault. fault ≡ StorageFault.Failed) }
         ensures cause { HasStorageCause (config_of self.old.now) (D.fault_counts self.old.disk) (D.fault_counts self.new.disk) result }
     {
         match self.flush() {
@@ -54,6 +58,7 @@ impl<D: Disk> Storage<D> {
         ensures stops { D.tells → (g : Behind) → IsStored (D.past self.old.disk) self.old.now g → Stops (D.past self.old.disk) (D.past self.new.disk) (StandsFrom (config_of self.old.now) g self.old.now.anchor (flushed_of self.old.now) (last_of self.old.now)) }
         ensures stored { D.tells → (g : Behind) → IsStored (D.past self.old.disk) self.old.now g → OnOk result (IsStored (D.past self.new.disk) self.new.now g) }
         ensures stopped { OnErr result (self.new.now.stopped ≡ true) }
+        ensures only { IfErr result (λ fault. fault ≡ StorageFault.Failed) }
         ensures cause { HasStorageCause (config_of self.old.now) (D.fault_counts self.old.disk) (D.fault_counts self.new.disk) result }
     {
         // These tell that the ring and the store are whole.
@@ -82,6 +87,7 @@ impl<D: Disk> Storage<D> {
             → Stops (D.past self.old.disk) (D.past self.new.disk) (StandsBetween (config_of self.old.now) g self.old.now.anchor (moved self.old.now need next_archive).anchor (flushed_of self.old.now) (flushed_of self.old.now)) }
         ensures stored { D.tells → (g : Behind) → IsStored (D.past self.old.disk) self.old.now g → need ≡ low_behind g.start (upto g.start g.records g.reached) → OnOk result (IsStored (D.past self.new.disk) self.new.now g) }
         ensures stopped { OnErr result (self.new.now.stopped ≡ true) }
+        ensures only { IfErr result (λ fault. fault ≡ StorageFault.Failed) }
         ensures cause { HasStorageCause (config_of self.old.now) (D.fault_counts self.old.disk) (D.fault_counts self.new.disk) result }
     {
         // These tell that the ring and the store are whole, and that positions fit.

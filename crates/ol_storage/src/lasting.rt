@@ -1,6 +1,6 @@
 //! The lasting state of an installation: anchors that are written at the same checkpoint.
 
-ghost use Rattle.std.specs.Prelude.{◌≡◌, ◌<◌, ◌^◌, IfOk, OnErr, OnOk, false, true, ℕ};
+ghost use Rattle.std.specs.Prelude.{◌≡◌, ◌<◌, ◌^◌, IfErr, IfOk, OnErr, OnOk, false, true, ℕ};
 ghost use Rattle.ol_ports.specs.Stops.{Stops};
 ghost use Rattle.ol_reserve.specs.Anchor.{IsAnchor};
 ghost use Rattle.ol_log_state.specs.Files.{next_page};
@@ -43,6 +43,7 @@ impl<D: Disk> Storage<D> {
         ensures stops { D.tells → (g : Behind) → IsStored (D.past self.old.disk) self.old.now g → Stops (D.past self.old.disk) (D.past self.new.disk) (StandsBetween (config_of self.old.now) g self.old.now.anchor (with_lasting self.old.now lasting.now).anchor (flushed_of self.old.now) (flushed_of self.old.now)) }
         ensures stored { D.tells → (g : Behind) → IsStored (D.past self.old.disk) self.old.now g → OnOk result (IsStored (D.past self.new.disk) self.new.now g) }
         ensures stopped { OnErr result (self.new.now.stopped ≡ true) }
+        ensures only { IfErr result (λ fault. fault ≡ StorageFault.Failed) }
         ensures cause { HasStorageCause (config_of self.old.now) (D.fault_counts self.old.disk) (D.fault_counts self.new.disk) result }
     {
         // These tell that the ring and the store are whole.
@@ -75,6 +76,7 @@ impl<D: Disk> Storage<D> {
         ensures stops { D.tells → (g : Behind) → IsStored (D.past self.old.disk) self.old.now g → Stops (D.past self.old.disk) (D.past self.new.disk) (StandsBetween (config_of self.old.now) g self.old.now.anchor (marked self.old.now (next_to_back self.old.now)).anchor (flushed_of self.old.now) (flushed_of self.old.now)) }
         ensures stored { D.tells → (g : Behind) → IsStored (D.past self.old.disk) self.old.now g → OnOk result (IsStored (D.past self.new.disk) self.new.now g) }
         ensures stopped { OnErr result (self.new.now.stopped ≡ true) }
+        ensures only { IfErr result (λ fault. fault ≡ StorageFault.Failed) }
         ensures cause { HasStorageCause (config_of self.old.now) (D.fault_counts self.old.disk) (D.fault_counts self.new.disk) result }
     {
         // These tell that the ring and the store are whole.
@@ -98,6 +100,7 @@ impl<D: Disk> Storage<D> {
         ensures stops { D.tells → (g : Behind) → IsStored (D.past self.old.disk) self.old.now g → Stops (D.past self.old.disk) (D.past self.new.disk) (StandsBetween (config_of self.old.now) g self.old.now.anchor (backed_up self.old.now uniq).anchor (flushed_of self.old.now) (flushed_of self.old.now)) }
         ensures stored { D.tells → (g : Behind) → IsStored (D.past self.old.disk) self.old.now g → OnOk result (IsStored (D.past self.new.disk) self.new.now g) }
         ensures stopped { OnErr result (self.new.now.stopped ≡ true) }
+        ensures only { IfErr result (λ fault. fault ≡ StorageFault.Failed) }
         ensures cause { HasStorageCause (config_of self.old.now) (D.fault_counts self.old.disk) (D.fault_counts self.new.disk) result }
     {
         // These tell that the ring and the store are whole.

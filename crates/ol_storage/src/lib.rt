@@ -6,6 +6,7 @@ mod checkpoint;
 mod clean;
 mod lasting;
 mod laws;
+mod log_reading;
 mod logging;
 mod operations;
 mod pages;

@@ -1,8 +1,9 @@
 //! The log of a storage: records are appended and flushed.
 
-ghost use Rattle.std.specs.Prelude.{◌≡◌, ◌<◌, ◌+◌, ◌^◌, [], OnOk, OnErr, true, false, ℕ};
+ghost use Rattle.std.specs.Prelude.{◌≡◌, ◌<◌, ◌+◌, ◌^◌, [], OnOk, IfErr, OnErr, true, false, ℕ};
 ghost use Rattle.ol_values.specs.Spelling.{KeepsRules};
-ghost use Rattle.ol_log_state.specs.RingState.{switched};
+ghost use Rattle.ol_rules.specs.Ring.{flushed as flushed_ring, logged, switched_off};
+ghost use Rattle.ol_log_state.specs.RingState.{ring_of, switched};
 ghost use Rattle.ol_ports.specs.Stops.{Stops};
 ghost use Rattle.ol_loglog.specs.RingValue.{HasRoom};
 ghost use Rattle.ol_store.specs.Stores.{AreFlushed};
@@ -29,9 +30,11 @@ impl<D: Disk> Storage<D> {
         requires low { (self.old.now.ring.state.files.uniq < 2 ^ 62) × (self.old.now.ring.state.next < 2 ^ 62) }
         requires at_end { self.old.now.reached + 1 ≡ self.old.now.ring.state.next }
         ensures step { OnOk result (self.new.now ≡ appended self.old.now rec.now self.new.now.ring.gates) }
+        ensures ring { OnOk result (ring_of self.new.now.ring.state ≡ logged (config_of self.old.now) (ring_of self.old.now.ring.state) (last_of self.old.now) rec.now) }
         ensures stops { D.tells → (g : Behind) → IsStored (D.past self.old.disk) self.old.now g → Stops (D.past self.old.disk) (D.past self.new.disk) (StandsFrom (config_of self.old.now) g self.old.now.anchor (flushed_of self.old.now) (last_of self.old.now)) }
         ensures stored { D.tells → (g : Behind) → IsStored (D.past self.old.disk) self.old.now g → TouchesNone (config_of self.old.now) self.old.now.anchor rec.now → OnOk result (IsStored (D.past self.new.disk) self.new.now (with_record rec.now g)) }
         ensures stopped { OnErr result (self.new.now.stopped ≡ true) }
+        ensures only { IfErr result (λ fault. fault ≡ StorageFault.Failed) }
         ensures cause { HasStorageCause (config_of self.old.now) (D.fault_counts self.old.disk) (D.fault_counts self.new.disk) result }
     {
         // These tell that the ring and the store are whole.
@@ -56,11 +59,13 @@ impl<D: Disk> Storage<D> {
         requires room { HasRoom self.old.now.ring.config self.old.now.ring.state }
         requires low { self.old.now.ring.state.files.uniq < 2 ^ 62 }
         ensures step { OnOk result (self.new.now ≡ flushed self.old.now self.new.now.ring.gates) }
+        ensures ring { OnOk result (ring_of self.new.now.ring.state ≡ flushed_ring (config_of self.old.now) (ring_of self.old.now.ring.state) (last_of self.old.now)) }
         // No page is ahead of the log then.
         ensures ahead { OnOk result (AreFlushed self.new.now.store) }
         ensures stops { D.tells → (g : Behind) → IsStored (D.past self.old.disk) self.old.now g → Stops (D.past self.old.disk) (D.past self.new.disk) (StandsFrom (config_of self.old.now) g self.old.now.anchor (flushed_of self.old.now) (last_of self.old.now)) }
         ensures stored { D.tells → (g : Behind) → IsStored (D.past self.old.disk) self.old.now g → OnOk result (IsStored (D.past self.new.disk) self.new.now g) }
         ensures stopped { OnErr result (self.new.now.stopped ≡ true) }
+        ensures only { IfErr result (λ fault. fault ≡ StorageFault.Failed) }
         ensures cause { HasStorageCause (config_of self.old.now) (D.fault_counts self.old.disk) (D.fault_counts self.new.disk) result }
     {
         // These tell that the ring and the store are whole.
@@ -86,9 +91,11 @@ impl<D: Disk> Storage<D> {
         requires room { HasRoom self.old.now.ring.config self.old.now.ring.state }
         requires low { self.old.now.ring.state.files.uniq < 2 ^ 62 }
         ensures step { OnOk result (self.new.now ≡ closed self.old.now self.new.now.ring.gates) }
+        ensures ring { OnOk result (ring_of self.new.now.ring.state ≡ switched_off (flushed_ring (config_of self.old.now) (ring_of self.old.now.ring.state) (last_of self.old.now))) }
         ensures stops { D.tells → (g : Behind) → IsStored (D.past self.old.disk) self.old.now g → Stops (D.past self.old.disk) (D.past self.new.disk) (StandsFrom (config_of self.old.now) g self.old.now.anchor (flushed_of self.old.now) (last_of self.old.now)) }
         ensures stored { D.tells → (g : Behind) → IsStored (D.past self.old.disk) self.old.now g → OnOk result (IsStored (D.past self.new.disk) self.new.now g) }
         ensures stopped { OnErr result (self.new.now.stopped ≡ true) }
+        ensures only { IfErr result (λ fault. fault ≡ StorageFault.Failed) }
         ensures cause { HasStorageCause (config_of self.old.now) (D.fault_counts self.old.disk) (D.fault_counts self.new.disk) result }
     {
         match self.flush() {
@@ -106,6 +113,7 @@ impl<D: Disk> Storage<D> {
         requires flushed { self.old.now.ring.state.buffer ≡ [] }
         ensures disk { self.new.disk ≡ self.old.disk }
         ensures step { self.new.now ≡ with_ring self.old.now (switched self.old.now.ring.state) self.old.now.ring.gates }
+        ensures ring { ring_of self.new.now.ring.state ≡ switched_off (ring_of self.old.now.ring.state) }
         ensures stored { D.tells → (g : Behind) → IsStored (D.past self.old.disk) self.old.now g → IsStored (D.past self.new.disk) self.new.now g }
     {
         self.ring.switch();

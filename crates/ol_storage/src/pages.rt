@@ -7,6 +7,8 @@ ghost use Rattle.ol_values.specs.Spelling.{KeepsRules};
 ghost use Rattle.ol_before.specs.Images.{captured};
 ghost use Rattle.ol_ports.specs.Stops.{Stops};
 ghost use Rattle.ol_pool.specs.Frames.{frame_of};
+ghost use Rattle.ol_rules.specs.Ring.{logged};
+ghost use Rattle.ol_log_state.specs.RingState.{ring_of};
 ghost use Rattle.ol_loglog.specs.RingValue.{HasRoom};
 ghost use Rattle.ol_store.specs.Stores.{CanCapture, IsBadAt, IsChanged, image_with, is_touched};
 ghost use Rattle.ol_storage.specs.Behind.{Behind, Moves, is_up, pages_of, with_record};
@@ -45,6 +47,7 @@ impl<D: Disk> Storage<D> {
         requires low { (self.old.now.ring.state.files.uniq < 2 ^ 62) × (self.old.now.ring.state.next < 2 ^ 62) }
         requires at_end { self.old.now.reached + 1 ≡ self.old.now.ring.state.next }
         ensures step { OnOk result (self.new.now ≡ with_store (appended self.old.now rec.now self.new.now.ring.gates) self.new.now.store) }
+        ensures ring { OnOk result (ring_of self.new.now.ring.state ≡ logged (config_of self.old.now) (ring_of self.old.now.ring.state) (last_of self.old.now) rec.now) }
         ensures changed { OnOk result (IsChanged self.old.now.store self.new.now.store rid.space rid.page self.old.now.ring.state.next) }
         ensures kept { capture ≡ false → OnOk result (self.new.now.store.before ≡ self.old.now.store.before) }
         ensures captured { D.tells → (g : Behind) → IsStored (D.past self.old.disk) self.old.now g → capture ≡ true → OnOk result (self.new.now.store.before ≡ captured (image_with rid.space rid.page (page_bytes ((pages_of self.old.now.anchor g).now rid.space rid.page))) self.old.now.store.before) }
@@ -55,6 +58,7 @@ impl<D: Disk> Storage<D> {
         ensures good { D.tells → (g : Behind) → IsStored (D.past self.old.disk) self.old.now g → (chunk at : ℕ) → IsErrOf result (StorageFault.Bad chunk at) → ⊥ }
         ensures memory { IsErrOf result StorageFault.NoMemory → frame_of self.old.now.store.pool rid.space rid.page ≡ None }
         ensures stopped { IsErrOf result StorageFault.Failed → self.new.now.stopped ≡ true }
+        ensures only { IsErrOf result StorageFault.Stopped → ⊥ }
         ensures cause { HasStorageCause (config_of self.old.now) (D.fault_counts self.old.disk) (D.fault_counts self.new.disk) result }
     {
         // These tell that the ring and the store are whole.

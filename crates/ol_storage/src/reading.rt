@@ -36,6 +36,7 @@ impl<D: Disk> Storage<D> {
         ensures good { D.tells → (g : Behind) → IsStored (D.past self.old.disk) self.old.now g → is_up self.old.now.anchor rid.space ≡ true → (chunk at : ℕ) → IsErrOf result (StorageFault.Bad chunk at) → ⊥ }
         ensures memory { IsErrOf result StorageFault.NoMemory → frame_of self.old.now.store.pool rid.space rid.page ≡ None }
         ensures stopped { IsErrOf result StorageFault.Failed → self.new.now.stopped ≡ true }
+        ensures only { IsErrOf result StorageFault.Stopped → ⊥ }
         ensures cause { HasStorageCause (config_of self.old.now) (D.fault_counts self.old.disk) (D.fault_counts self.new.disk) result }
     {
         // These tell that the ring and the store are whole.
@@ -65,6 +66,7 @@ impl<D: Disk> Storage<D> {
         ensures good { D.tells → (g : Behind) → IsStored (D.past self.old.disk) self.old.now g → is_up self.old.now.anchor space ≡ true → (chunk at : ℕ) → IsErrOf result (StorageFault.Bad chunk at) → ⊥ }
         ensures memory { IsErrOf result StorageFault.NoMemory → frame_of self.old.now.store.pool space page ≡ None }
         ensures stopped { IsErrOf result StorageFault.Failed → self.new.now.stopped ≡ true }
+        ensures only { IsErrOf result StorageFault.Stopped → ⊥ }
         ensures cause { HasStorageCause (config_of self.old.now) (D.fault_counts self.old.disk) (D.fault_counts self.new.disk) result }
     {
         // These tell that the ring and the store are whole.
@@ -102,6 +104,7 @@ impl<D: Disk> Storage<D> {
         ensures good { D.tells → (g : Behind) → IsStored (D.past self.old.disk) self.old.now g → AreUp cursor.now (pages_of self.old.now.anchor g) → (chunk at : ℕ) → IsErrOf result (StorageFault.Bad chunk at) → ⊥ }
         ensures memory { IsErrOf result StorageFault.NoMemory → ⊥ }
         ensures stopped { IsErrOf result StorageFault.Failed → self.new.now.stopped ≡ true }
+        ensures only { IsErrOf result StorageFault.Stopped → ⊥ }
         ensures cause { HasStorageCause (config_of self.old.now) (D.fault_counts self.old.disk) (D.fault_counts self.new.disk) result }
     {
         // These tell that the ring and the store are whole.

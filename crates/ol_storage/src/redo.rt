@@ -35,6 +35,7 @@ impl<D: Disk> Storage<D> {
         ensures bad { (chunk at : ℕ) → IsErrOf result (StorageFault.Bad chunk at) → IsBadAt self.old.now.store rid.space rid.page chunk at }
         ensures memory { IsErrOf result StorageFault.NoMemory → frame_of self.old.now.store.pool rid.space rid.page ≡ None }
         ensures stopped { IsErrOf result StorageFault.Failed → self.new.now.stopped ≡ true }
+        ensures only { IsErrOf result StorageFault.Stopped → ⊥ }
         ensures cause { HasStorageCause (config_of self.old.now) (D.fault_counts self.old.disk) (D.fault_counts self.new.disk) result }
     {
         // These tell that the ring and the store are whole.

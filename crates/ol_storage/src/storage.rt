@@ -1,8 +1,13 @@
 //! The storage, and what it is asked without a change.
 
-ghost use Rattle.std.specs.Prelude.{◌≡◌, ◌<◌, false};
-ghost use Rattle.ol_loglog.specs.RingValue.{RingValue};
-ghost use Rattle.ol_storage.specs.Installation.{HasAll, Installation, IsGoing};
+ghost use Rattle.std.specs.Bool.{OnFalse};
+ghost use Rattle.std.specs.Prelude.{◌≡◌, ◌<◌, false, ℕ};
+ghost use Rattle.ol_loglog.specs.RingValue.{IsLogRing, RingValue};
+ghost use Rattle.ol_ports.specs.Disk.{Bytes, Rest};
+ghost use Rattle.ol_storage.specs.Behind.{Behind};
+ghost use Rattle.ol_storage.specs.Installation.{HasAll, Installation, IsGoing, config_of, flushed_of};
+ghost use Rattle.ol_storage.specs.Standing.{StandsFrom};
+ghost use Rattle.ol_storage.specs.Storing.{IsStored};
 
 use ol_chunks::ChunkTable;
 use ol_loglog::LogRing;
@@ -96,8 +101,14 @@ impl<D: Disk> Storage<D> {
 
     /// Whether a call of the disk has failed, so that none may follow.
     pub fn is_stopped(&self) -> bool
-        ensures { result ≡ self.now.now.stopped }
+        ensures value { result ≡ self.now.now.stopped }
+        ensures going { OnFalse result (IsGoing self.now.now) }
+        ensures ring { IsLogRing self.now.now.ring }
+        // What a stop between two calls leaves.
+        ensures stands { D.tells → (g : Behind) → IsStored (D.past self.now.disk) self.now.now g → (d : Bytes) → Rest (D.past self.now.disk) d → StandsFrom (config_of self.now.now) g self.now.now.anchor (flushed_of self.now.now) (flushed_of self.now.now) d }
     {
+        // These tell that the ring and the store are whole.
+        let _whole = (self.ring.reusable(self.anchor.uniq), self.store.spare());
         self.stopped
     }
 

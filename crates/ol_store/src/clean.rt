@@ -49,8 +49,8 @@ impl Store {
         }
     }
 
-    // The page that is longest dirty.
-    pub(crate) fn oldest_dirty(&self) -> Option<(u8, u16)>
+    /// The page that is longest dirty, by space and page; `None` exactly where none is.
+    pub fn oldest_dirty(&self) -> Option<(u8, u16)>
         ensures value { result ≡ slice_get self.now.pool.dirty 0 }
         ensures page { IfSome result (λ place. (has_page self.now.config place.0 place.1 ≡ true) × (is_dirty self.now.pool place.0 place.1 ≡ true)) }
         ensures store { IsStore self.now }

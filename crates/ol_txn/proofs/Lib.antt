@@ -1,3 +1,3 @@
 mod SeatLaws
-mod TellingLaws
-mod TellingSeats
+pub mod TellingLaws
+pub mod TellingSeats

@@ -10,6 +10,7 @@ use Rattle.ol_log_opening.specs.Opened.{HasLogCause}
 use Rattle.ol_log_opening.specs.declared.log.LogOpenFault.TheVariants.{DiskFault}
 use Rattle.ol_log_opening.proofs.Causes.{scan_failed}
 use Rattle.ol_log_opening.proofs.Opening.{opened_result, ready_result}
+use Rattle.ol_log_opening.proofs.Whole.{lacks_clash, none_refused}
 use Rattle.ol_log_opening.proofs.log.read_log.Goals as goal
 
 pub returns-in-Ok-clause-opened : goal.returns-in-Ok-clause-opened
@@ -26,3 +27,12 @@ returns-in-Err-DiskFault-clause-cause g c =
     subst (λ (k : ℕ). HasLogCause {T = RingValue} (log_area c.args.table.now).chunk (g.D.Disk.fault_counts c.args.disk.now) (g.D.Disk.fault_counts c.scan.new.disk) (Err (DiskFault k))) (sym c.in-Err-DiskFault.chunk-is)
     (scan_failed c.args.table.now (g.D.Disk.fault_counts c.args.disk.now) (g.D.Disk.fault_counts c.scan.new.disk) c.in-Err-DiskFault.chunk
     (subst (λ r. HasScanCause c.args.table.now (g.D.Disk.fault_counts c.args.disk.now) (g.D.Disk.fault_counts c.scan.new.disk) r) (c.in-Err-DiskFault.is ∙ ap Err c.in-Err-DiskFault.field-0-is) c.scan.ensures.cause))
+
+pub returns-in-Ok-clause-whole : goal.returns-in-Ok-clause-whole
+returns-in-Ok-clause-whole g c tells j last low at small log ends chunk page is =
+    lacks_clash c.args.table.now (places c.args.table.now (seen (g.D.Disk.past c.args.disk.now))) j c.args.anchor.now.need c.args.anchor.now.position last c.in-Ok.standing.run log low at small ends (c.in-Ok.ensures.run tells) (c.open_ring.ensures.lack chunk page is)
+
+pub returns-in-Err-BadDisk-clause-whole : goal.returns-in-Err-BadDisk-clause-whole
+returns-in-Err-BadDisk-clause-whole g c tells j last low at small log ends chunk page is =
+    none_refused c.args.table.now (places c.args.table.now (seen (g.D.Disk.past c.args.disk.now))) j c.args.anchor.now.need (last + 1) c.in-Err-BadDisk.chunk c.in-Err-BadDisk.page log
+    (c.scan.ensures.bad tells c.in-Err-BadDisk.chunk c.in-Err-BadDisk.page (c.in-Err-BadDisk.is ∙ ap Err c.in-Err-BadDisk.field-0-is))

@@ -6,4 +6,4 @@ pub returns-clause-current : goal.returns-clause-current
 returns-clause-current a f = number_between f
 
 pub returns-clause-last : goal.returns-clause-last
-returns-clause-last a past v r floor j ready = near_next v.config v.state v.gates past r floor j ready
+returns-clause-last a past v r floor j ready = near_next _ v.config v.state v.gates past r floor j ready

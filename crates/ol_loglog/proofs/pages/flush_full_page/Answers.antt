@@ -9,7 +9,7 @@ use Rattle.ol_loglog.proofs.Readies.{flushed_empty, ready_holds}
 use Rattle.ol_loglog.proofs.pages.flush_full_page.Goals as goal
 
 pub returns-then-fits-clause-stops : goal.returns-then-fits-clause-stops
-returns-then-fits-clause-stops g c tells r floor j ready free = stops_none _ _ (ready_holds c.args.table.now c.args.state.now c.args.gates.now.items _ r floor j ready c.args.state.now.next (omega arith))
+returns-then-fits-clause-stops g c tells r floor j ready free = stops_none _ _ (ready_holds _ c.args.table.now c.args.state.now c.args.gates.now.items _ r floor j ready c.args.state.now.next (omega arith))
 
 pub returns-then-fits-clause-frame : goal.returns-then-fits-clause-frame
 returns-then-fits-clause-frame g c tells = stops_none _ _ (λ d rest. framed_none _ _ d rest)

@@ -9,7 +9,7 @@ use Rattle.ol_loglog.proofs.Readies.{ready_holds, wider}
 use Rattle.ol_loglog.proofs.pages.flush_page.Goals as goal
 
 pub returns-then-not-held-clause-stops : goal.returns-then-not-held-clause-stops
-returns-then-not-held-clause-stops g c tells r floor j ready free = stops_none _ _ (ready_holds c.args.table.now c.args.state.now c.args.gates.now.items _ r floor j ready c.args.state.now.next (omega arith))
+returns-then-not-held-clause-stops g c tells r floor j ready free = stops_none _ _ (ready_holds _ c.args.table.now c.args.state.now c.args.gates.now.items _ r floor j ready c.args.state.now.next (omega arith))
 
 pub returns-then-not-held-clause-frame : goal.returns-then-not-held-clause-frame
 returns-then-not-held-clause-frame g c tells = stops_none _ _ (λ d rest. framed_none _ _ d rest)

@@ -31,8 +31,8 @@ returns-in-Ok-clause-stops g c tells r floor j ready shut =
     let bytes = spelled t s k c.bytes.result.now c.requires.area c.requires.limits c.requires.low c.requires.some below at c.bytes.ensures.bytes c.bytes.ensures.filling in
     let within = c.place_of_page-place.ensures.limit in
     stops_weaker _ _ _ _
-    (λ (d : Bytes) may. put_holds t s c.args.gates.now.items _ r floor j ready shut c.requires.area k at below within c.requires.some c.requires.limits d (subst (λ (p : LogPage). MayHavePage t r k p d) bytes.value may))
-    (c.write_log_page.ensures.stops tells r ready.placed (closed_there t s c.args.gates.now.items _ r floor j ready shut c.requires.area k at below within) bytes.page)
+    (λ (d : Bytes) may. put_holds _ t s c.args.gates.now.items _ r floor j ready shut c.requires.area k at below within c.requires.some c.requires.limits d (subst (λ (p : LogPage). MayHavePage t r k p d) bytes.value may))
+    (c.write_log_page.ensures.stops tells r ready.placed (closed_there _ t s c.args.gates.now.items _ r floor j ready shut c.requires.area k at below within) bytes.page)
 
 pub returns-in-Err-clause-stops : goal.returns-in-Err-clause-stops
 returns-in-Err-clause-stops g c tells r floor j ready shut =
@@ -44,8 +44,8 @@ returns-in-Err-clause-stops g c tells r floor j ready shut =
     let bytes = spelled t s k c.bytes.result.now c.requires.area c.requires.limits c.requires.low c.requires.some below at c.bytes.ensures.bytes c.bytes.ensures.filling in
     let within = c.place_of_page-place.ensures.limit in
     stops_weaker _ _ _ _
-    (λ (d : Bytes) may. put_holds t s c.args.gates.now.items _ r floor j ready shut c.requires.area k at below within c.requires.some c.requires.limits d (subst (λ (p : LogPage). MayHavePage t r k p d) bytes.value may))
-    (c.write_log_page.ensures.stops tells r ready.placed (closed_there t s c.args.gates.now.items _ r floor j ready shut c.requires.area k at below within) bytes.page)
+    (λ (d : Bytes) may. put_holds _ t s c.args.gates.now.items _ r floor j ready shut c.requires.area k at below within c.requires.some c.requires.limits d (subst (λ (p : LogPage). MayHavePage t r k p d) bytes.value may))
+    (c.write_log_page.ensures.stops tells r ready.placed (closed_there _ t s c.args.gates.now.items _ r floor j ready shut c.requires.area k at below within) bytes.page)
 
 pub returns-in-Ok-clause-ok : goal.returns-in-Ok-clause-ok
 returns-in-Ok-clause-ok g c tells r floor j ready shut =
@@ -58,13 +58,13 @@ returns-in-Ok-clause-ok g c tells r floor j ready shut =
     let below : (next_page s.files).index < t.log_file_pages = omega (arith, c.next_page.ensures.index, ap (λ (n : NextPage). n.index) c.next_page.ensures.value, ap (λ (a : Area). a.pages) c.requires.area) in
     let bytes = spelled t s k c.bytes.result.now c.requires.area c.requires.limits c.requires.low c.requires.some below at c.bytes.ensures.bytes c.bytes.ensures.filling in
     let within = c.place_of_page-place.ensures.limit in
-    let closed = closed_there t s gates _ r floor j ready shut c.requires.area k at below within in
+    let closed = closed_there _ t s gates _ r floor j ready shut c.requires.area k at below within in
     let placed = subst (λ (q : LogPage). IsPlaced (g.D.Disk.past c.write_log_page.new.disk) t (with_page r k q)) bytes.value (c.in-Ok.ensures.ok tells r ready.placed closed bytes.page) in
     let are = gates_page gates (slice_set gates k true) r k p ready.gates (length-set gates k true) (get_or-set_same gates k true false (omega (arith, within, c.requires.gates))) (λ x other. get_or-set_other gates k x true false other) in
     let ring = ap ring_of (sym c.turn_page.ensures.value) ∙ c.turn_page.ensures.ring ∙ written_is t s _ c.requires.area in (
       with_page r k p,
       subst (λ (x : RingState). IsReady (g.D.Disk.past c.write_log_page.new.disk) (ring_value t x (slice_set gates k true)) (with_page r k p) floor j) (sym c.turn_page.ensures.value)
-          (ready_put t s gates _ r floor j ready shut c.requires.area k at below within c.requires.some c.requires.limits ring (g.D.Disk.past c.write_log_page.new.disk) (slice_set gates k true) placed are),
+          (ready_put _ t s gates _ r floor j ready shut c.requires.area k at below within c.requires.some c.requires.limits ring (λ other e. e) (g.D.Disk.past c.write_log_page.new.disk) (slice_set gates k true) placed are),
     )
 
 pub returns-in-Ok-clause-order : goal.returns-in-Ok-clause-order

@@ -1,0 +1,9 @@
+pub mod Results
+pub mod Lows
+pub mod Rooms
+pub mod Steps
+pub mod Tables
+pub mod Seats
+pub mod Turns
+pub mod Stops
+pub mod Entries

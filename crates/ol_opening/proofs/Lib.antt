@@ -1,0 +1,5 @@
+mod Anchors
+mod Faults
+mod Images
+mod Joined
+mod Journals

@@ -1,0 +1,11 @@
+pub mod PlaceLaws
+pub mod CountLaws
+pub mod ShowLaws
+pub mod StepLaws
+pub mod OwnLaws
+pub mod EndLaws
+pub mod StartLaws
+pub mod KeptLaws
+pub mod TakeLaws
+pub mod TurnLaws
+pub mod ChangeLaws
