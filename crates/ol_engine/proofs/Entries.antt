@@ -14,7 +14,7 @@ use Rattle.ol_storage.specs.Installation.{Installation, IsGoing}
 use Rattle.ol_engine.specs.Parts.{HasEntry, HasNoEntry, ShowsStorage, ready_for, touched_in}
 
 -- the pages of the entries are those that the machine has as touched
-in_places : (places : List Place) (space page : ℕ) → list_any (same_page (place_of_entry space page)) places ≡ is_page_in (space, page) (touched_in places)
+pub in_places : (places : List Place) (space page : ℕ) → list_any (same_page (place_of_entry space page)) places ≡ is_page_in (space, page) (touched_in places)
 in_places [] space page = refl
 in_places (q ∷ places) space page = ap (λ b. ((space == q.space) && (page == q.page)) || b) (in_places places space page)
 

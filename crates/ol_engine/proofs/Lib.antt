@@ -7,3 +7,4 @@ pub mod Seats
 pub mod Turns
 pub mod Stops
 pub mod Entries
+pub mod Changes

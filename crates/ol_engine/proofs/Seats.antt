@@ -1,22 +1,30 @@
 -- What the lock table and the registers show behind the records of a session.
 use Rattle.std.specs.Option.{option_map}
-use Rattle.std.specs.Prelude.{List, None, Option, Some, [], false, length, slice_index_or, slice_set, true, ℕ, ◌+◌, ◌-◌, ◌≡◌, ◌≤◌, ◌≢◌}
+use Rattle.std.specs.Prelude.{Bool, List, None, Option, Some, [], false, length, slice_index_or, slice_set, true, ℕ, ◌+◌, ◌-◌, ◌≡◌, ◌≤◌, ◌≢◌}
 use Rattle.std.proofs.Common.{ap, arith, inl, inr, refl, subst, sym, ◌∙◌}
+use Rattle.std.proofs.lemmas.Bool.{cases_Bool}
 use Rattle.std.proofs.lemmas.Bool.Decides.{eqb_tells}
-use Rattle.std.proofs.lemmas.List.{get_or-set_other, get_or-set_same, length-set}
-use Rattle.ol_values.specs.declared.record.Record.TheVariants.{Begin, Commit, Rolled}
+use Rattle.std.proofs.lemmas.List.{get_or-set_other, get_or-set_same, length-map, length-set}
+use Rattle.ol_values.specs.declared.record.Record.{Record}
+use Rattle.ol_values.specs.declared.record.Record.TheVariants.{Begin, Change, Commit, Rolled}
 use Rattle.ol_values.specs.declared.record.Rid.{Rid}
-use Rattle.ol_rules.specs.Locks.{Holding, is_among}
-use Rattle.ol_rules.specs.Transactions.{Ascending, Txn, txns_after}
-use Rattle.ol_model.specs.Machine.{Machine, Seat, last_of, no_seat, seat_of, txns_in, with_seat}
+use Rattle.ol_values.specs.declared.row.Row.{Row}
+use Rattle.ol_rules.specs.Locks.{Holding, holder_of, is_among, owns}
+use Rattle.ol_rules.specs.Transactions.{Ascending, Txn, txn_numbered, txns_after}
+use Rattle.ol_model.specs.Machine.{Machine, Seat, holder, no_seat, seat_of, txn_at, txn_of, txns_in, with_seat}
 use Rattle.ol_model.specs.SessionTurns.{without_txn}
-use Rattle.ol_model.specs.Steps.{append, flush}
-use Rattle.ol_turn_laws.proofs.StepLaws.{appended_txns}
+use Rattle.ol_model.specs.Steps.{append, change_row, flush}
+use Rattle.ol_turn_laws.proofs.KeptLaws.{change_sessions}
+use Rattle.ol_turn_laws.proofs.StepLaws.{appended_txns, changed_txns}
+use Rattle.ol_turn_laws.proofs.TableLaws.{same_holder}
 use Rattle.ol_turn_laws.specs.Room.{Regular}
-use Rattle.ol_txn.specs.Seats.{IsSession, begun_seat, empty_seat, forgotten_seat, table_of}
+use Rattle.ol_turn_laws.specs.Tables.{IsHeld, TellsSessions}
+use Rattle.ol_txn.specs.Seats.{IsSession, begun_seat, changing, empty_seat, forgotten_seat, noted_seat, owned_more, owning, reserved_seat, table_of}
 use Rattle.ol_txn.specs.Seats.{Seat as LockSeat, seat_of as locks_of, with_seat as with_locks}
-use Rattle.ol_txn.specs.Telling.{Tells}
-use Rattle.ol_txn.proofs.TellingSeats.{seat_read, told_begin, told_end}
+use Rattle.ol_txn.specs.Telling.{IsOf, Tells}
+use Rattle.ol_txn.proofs.TellingSeats.{seat_read, told_begin, told_change, told_end, told_open, told_reserve}
+use Rattle.ol_rules.specs.Sound.{IsOne}
+use Rattle.ol_engine.proofs.Tables.{held_seat}
 use Rattle.ol_engine.specs.Parts.{Registers, ShowsSeats, number_in, registers_of, shared_in}
 
 -- ---- one seat and the others
@@ -107,3 +115,90 @@ commit_shows seats registers m k h session holds regular is = end_shows seats re
 pub rolled_shows : (seats : List LockSeat) (registers : Registers) (m : Machine) (k : ℕ) (h : Holding) → IsSession k → (locks_of seats k).holding ≡ Some h → Regular m → ShowsSeats seats registers m
     → ShowsSeats (with_locks seats k (forgotten_seat (locks_of seats k))) registers (without_txn k (seat_of m k) (append (Rolled h.number) m))
 rolled_shows seats registers m k h session holds regular is = end_shows seats registers m (append (Rolled h.number) m) k h session holds regular refl (appended_txns (Rolled h.number) m) is
+
+-- ---- locks alone
+
+-- session k has other locks, by which its transaction has the same number and shares the same slots
+pub locks_show : (seats : List LockSeat) (registers : Registers) (m n : Machine) (k : ℕ) (l : LockSeat) → IsSession k → n.work.sessions ≡ m.work.sessions → Tells (txns_in n) (table_of (with_locks seats k l)) → number_in l.holding ≡ number_in (locks_of seats k).holding
+    → ((rid : Rid) → is_among rid (shared_in l.holding) ≡ is_among rid (shared_in (locks_of seats k).holding)) → ShowsSeats seats registers m → ShowsSeats (with_locks seats k l) registers n
+locks_show seats registers m n k l session same tells number shares is = record {
+  sixteen = length-set seats (k - 1) l ∙ is.sixteen;
+  seated = ap (λ (s : List Seat). length s) same ∙ is.seated;
+  tells = tells;
+  numbers = λ j from to. elim (eqb_tells j k) [
+    | inl here ↦ subst (λ i. number_in (locks_of (with_locks seats k l) i).holding ≡ (seat_of n i).txn) (sym here.1) (ap (λ (x : LockSeat). number_in x.holding) mine ∙ number ∙ is.numbers k session.0 session.1 ∙ ap (λ (x : Seat). x.txn) (sym (before k)))
+    | inr there ↦ ap (λ (x : LockSeat). number_in x.holding) (locks_other seats k j l session.0 from there.1) ∙ is.numbers j from to ∙ ap (λ (x : Seat). x.txn) (sym (before j))
+  ];
+  shares = λ j rid from to. elim (eqb_tells j k) [
+    | inl here ↦ subst (λ i. is_among rid (shared_in (locks_of (with_locks seats k l) i).holding) ≡ is_among rid (seat_of n i).shares) (sym here.1) (ap (λ (x : LockSeat). is_among rid (shared_in x.holding)) mine ∙ shares rid ∙ is.shares k rid session.0 session.1 ∙ ap (λ (x : Seat). is_among rid x.shares) (sym (before k)))
+    | inr there ↦ ap (λ (x : LockSeat). is_among rid (shared_in x.holding)) (locks_other seats k j l session.0 from there.1) ∙ is.shares j rid from to ∙ ap (λ (x : Seat). is_among rid x.shares) (sym (before j))
+  ];
+  registered = λ j from to. is.registered j from to ∙ ap (λ (x : Seat). x.registers) (sym (before j));
+}
+  where
+    mine : locks_of (with_locks seats k l) k ≡ l
+    mine = seat_read seats k l is.sixteen session
+
+    before : (j : ℕ) → seat_of n j ≡ seat_of m j
+    before j = ap (λ (s : List Seat). slice_index_or s (j - 1) no_seat) same
+
+-- memory that is made for a session's locks shows nothing
+pub reserve_shows : (seats : List LockSeat) (registers : Registers) (m : Machine) (k n : ℕ) → IsSession k → ShowsSeats seats registers m → ShowsSeats (with_locks seats k (reserved_seat n (locks_of seats k))) registers m
+reserve_shows seats registers m k n session is = locks_show seats registers m m k (reserved_seat n (locks_of seats k)) session refl (told_reserve (txns_in m) seats k n is.tells) refl (λ rid. refl) is
+
+-- a change is noted, and its slot owned
+changed_number : (p : Rid × Option Row) (held : Option Holding) → number_in (option_map (changing p) held) ≡ number_in held
+changed_number p None = refl
+changed_number p (Some h) = refl
+
+owned_number : (p : Rid × Option Row) (rid : Rid) (held : Option Holding) → number_in (option_map (changing p) (option_map (owning rid) held)) ≡ number_in held
+owned_number p rid None = refl
+owned_number p rid (Some h) = refl
+
+changed_shared : (p : Rid × Option Row) (held : Option Holding) → shared_in (option_map (changing p) held) ≡ shared_in held
+changed_shared p None = refl
+changed_shared p (Some h) = refl
+
+owned_shared : (p : Rid × Option Row) (rid : Rid) (held : Option Holding) → shared_in (option_map (changing p) (option_map (owning rid) held)) ≡ shared_in held
+owned_shared p rid None = refl
+owned_shared p rid (Some h) = refl
+
+pub noted_number : (p : Rid × Option Row) (rid : Rid) (s : LockSeat) → number_in (noted_seat p (owned_more rid s)).holding ≡ number_in s.holding
+noted_number p rid s = elim (cases_Bool (owns rid s.holding)) [ inl e ↦ rw e (changed_number p s.holding) | inr e ↦ rw e (owned_number p rid s.holding) ]
+
+noted_shared : (p : Rid × Option Row) (rid : Rid) (s : LockSeat) → shared_in (noted_seat p (owned_more rid s)).holding ≡ shared_in s.holding
+noted_shared p rid s = elim (cases_Bool (owns rid s.holding)) [ inl e ↦ rw e (changed_shared p s.holding) | inr e ↦ rw e (owned_shared p rid s.holding) ]
+
+-- the session's transaction changes a row
+pub change_sessions_show : (seats : List LockSeat) (registers : Registers) (m : Machine) (k n : ℕ) (h : Holding) (rid : Rid) (before after : Option Row) → IsSession k → (locks_of seats k).holding ≡ Some h → Regular m → ShowsSeats seats registers m
+    → ShowsSeats (with_locks seats k (noted_seat (rid, before) (owned_more rid (locks_of seats k)))) registers (change_row n rid (Change h.number rid before after) m)
+change_sessions_show seats registers m k n h rid before after session holds regular is =
+    let r : Record = Change h.number rid before after in
+    locks_show seats registers m (change_row n rid r m) k (noted_seat (rid, before) (owned_more rid (locks_of seats k))) session (change_sessions n rid r m)
+    (subst (λ (t : List Txn). Tells t (table_of (with_locks seats k (noted_seat (rid, before) (owned_more rid (locks_of seats k)))))) (sym (changed_txns n rid r m)) (told_change (txns_in m) seats k h.number h rid before after regular.orderly.ascending holds refl is.tells))
+    (noted_number (rid, before) rid (locks_of seats k)) (λ place. ap (λ (l : List Rid). is_among place l) (noted_shared (rid, before) rid (locks_of seats k))) is
+
+-- ---- the table tells of the machine's sessions
+
+open_holding : (h : Holding) (o : Option Txn) (shares : List Rid) → IsOne o (IsOf h) → ((rid : Rid) → is_among rid h.shared ≡ is_among rid shares) → IsHeld (Some h) o shares
+open_holding h None shares is shared = absurd is
+open_holding h (Some t) shares is shared = record { number = is.number; pending = is.pending; undone = is.undone; owned = is.owned; shared = shared }
+
+pub sessions_told : (seats : List LockSeat) (registers : Registers) (m : Machine) → Regular m → ShowsSeats seats registers m → TellsSessions m (table_of seats)
+sessions_told seats registers m regular is = record {
+  sixteen = length-map seats (λ (s : LockSeat). s.holding) ∙ is.sixteen;
+  sessions = λ k from to. subst (λ (o : Option Holding). IsHeld o (txn_at m k) (seat_of m k).shares) (sym (held_seat seats k)) (by_holding k from to (locks_of seats k).holding refl);
+}
+  where
+    by_holding : (k : ℕ) → 1 ≤ k → k ≤ 16 → (held : Option Holding) → (locks_of seats k).holding ≡ held → IsHeld held (txn_at m k) (seat_of m k).shares
+    by_holding k from to None e =
+        let none : (seat_of m k).txn ≡ None = sym (is.numbers k from to) ∙ ap number_in e in
+        subst (λ (o : Option ℕ). IsHeld None (txn_of m o) (seat_of m k).shares) (sym none) (regular.idle k none)
+    by_holding k from to (Some h) e =
+        let some : (seat_of m k).txn ≡ Some h.number = sym (is.numbers k from to) ∙ ap number_in e in
+        subst (λ (o : Option ℕ). IsHeld (Some h) (txn_of m o) (seat_of m k).shares) (sym some)
+        (open_holding h (txn_numbered h.number (txns_in m)) (seat_of m k).shares (told_open (txns_in m) seats k h regular.orderly.ascending e is.tells) (λ rid. ap (λ (o : Option Holding). is_among rid (shared_in o)) (sym e) ∙ is.shares k rid from to))
+
+-- the least other session in the way is the machine's
+pub holder_is : (seats : List LockSeat) (registers : Registers) (m : Machine) (k : ℕ) (own : Bool) (rid : Rid) → Regular m → ShowsSeats seats registers m → holder_of (table_of seats) k rid own ≡ holder m k own rid
+holder_is seats registers m k own rid regular is = same_holder m (table_of seats) k own rid (sessions_told seats registers m regular is)

@@ -13,7 +13,7 @@ use Rattle.ol_log_state.specs.RingState.{RingState, ring_of}
 use Rattle.ol_loglog.proofs.Steps.{number_between}
 use Rattle.ol_loglog.specs.RingValue.{HasRoom, flushed_state, logged_state}
 use Rattle.ol_storage.proofs.LogSteps.{flushed_first, logged_goes}
-use Rattle.ol_storage.specs.Installation.{Installation, IsGoing, appended, checkpointed, flushed}
+use Rattle.ol_storage.specs.Installation.{Installation, appended, checkpointed, flushed, with_store}
 use Rattle.ol_storage.specs.Installation.{config_of as config_in, last_of as last_behind}
 use Rattle.ol_engine.specs.Parts.{ShowsStorage, free_of, lasting_in, touched_in}
 
@@ -127,3 +127,17 @@ append_free v w r small long step ring =
     let reuse : w.ring.state.reuse ≡ v.ring.state.reuse = ap (λ (x : Installation). x.ring.state.reuse) step ∙ (logged_goes r v.ring.state long).reuse in
     let config : w.ring.config ≡ v.ring.config = ap (λ (x : Installation). x.ring.config) step in
     omega (arith, free_is v w _ config reuse ring, logged_free v.ring.config v.ring.state.reuse (ring_of v.ring.state) (last_behind v) r small)
+
+-- ---- a page that came into memory
+
+pub loaded_shows : (v w : Installation) (m : Machine) → w ≡ with_store v w.store → w.store.log ≡ v.store.log → ShowsStorage v m → ShowsStorage w m
+loaded_shows v w m step log is = record {
+  config = ap (λ (x : Installation). x.ring.config) step ∙ is.config;
+  ring = ap (λ (x : Installation). ring_of x.ring.state) step ∙ is.ring;
+  next = ap (λ (x : Installation). x.ring.state.next) step ∙ is.next;
+  reached = ap (λ (x : Installation). x.reached) step ∙ is.reached;
+  position = ap (λ (x : Installation). x.anchor.position) step ∙ is.position;
+  need = ap (λ (x : Installation). x.anchor.need) step ∙ is.need;
+  touched = ap (λ l. touched_in l.places) log ∙ is.touched;
+  lasting = ap (λ (x : Installation). lasting_in (config_of m) x.anchor) step ∙ is.lasting;
+}

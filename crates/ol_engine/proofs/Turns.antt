@@ -14,24 +14,18 @@ use Rattle.ol_rules.specs.Ring.{flushed as flushed_ring, held as held_pages}
 use Rattle.ol_turn_laws.proofs.RoomLaws.{flushed_free, more_free, written_room}
 use Rattle.ol_log_state.specs.RingState.{ring_of}
 use Rattle.ol_loglog.proofs.Readies.{flushed_empty}
-use Rattle.ol_loglog.specs.RingValue.{HasRoom}
+use Rattle.ol_loglog.specs.RingValue.{HasRoom, RingValue}
 use Rattle.ol_storage.proofs.LogSteps.{flushed_first, logged_goes}
-use Rattle.ol_storage.specs.Installation.{Installation, IsGoing, appended, checkpointed, flushed}
+use Rattle.ol_storage.specs.Installation.{Installation, IsGoing, appended, checkpointed, flushed, flushed_of, with_store}
 use Rattle.ol_storage.specs.Installation.{config_of as config_in, last_of as last_behind}
 use Rattle.ol_txn.specs.Seats.{Seat, table_of}
 use Rattle.ol_txn.specs.Telling.{held}
-use Rattle.ol_engine.specs.Parts.{HasRisen, HasTurns, free_of, last_in, need_of, owed_of}
-use Rattle.ol_engine.specs.Turns.{is_journal_full, is_log_full, no_room_of}
+use Rattle.ol_engine.specs.Parts.{HasRisen, HasTurns, IsBeside, MayFollow, free_of, last_in, need_of, owed_of}
+use Rattle.ol_engine.specs.Turns.{HasMore, is_journal_full, is_log_full, no_room_of}
 use Rattle.ol_engine.proofs.Lows.{need_least, need_within}
 use Rattle.ol_engine.proofs.Steps.{append_free, empty_room, flush_free, flushed_reuse, flushed_uniq, logged_uniq}
 
 -- ---- what is not refused
-
--- there is room for a record more and what that owes
-pub record HasMore (opened : ℕ) (v : Installation) (seats : List Seat) : Type 0 where
-  pub log : owed_of seats + 2 ≤ free_of v
-  pub records : last_in v - opened + owed_of seats + 2 ≤ 1048576
-  pub positions : last_in v + 1 + owed_of seats + 2 ≤ 2 ^ 62
 
 pub has_more : (opened : ℕ) (v : Installation) (seats : List Seat) → no_room_of opened v seats ≡ None → HasMore opened v seats
 has_more opened v seats none = by_case (is_journal_full opened v seats) refl
@@ -107,6 +101,27 @@ append_turns opened v w seats now r small long step ring is some log records pos
       numbers = λ i h e. let both = numbers i h e in (omega (arith, both.0, need), omega (arith, both.1, next));
     }
 
+-- a record with a table that may stand behind it
+pub follow_turns : (opened : ℕ) (v w u : Installation) (seats now : List Seat) (r : Record) → record_length r ≤ log_room → length w.ring.state.buffer < w.ring.state.next → u ≡ with_store (appended w r u.ring.gates) u.store → ring_of u.ring.state ≡ logged (config_in w) (ring_of w.ring.state) (last_behind w) r
+    → IsBeside v w → HasTurns opened w seats → MayFollow opened v seats now → HasTurns opened u now
+follow_turns opened v w u seats now r small long step ring beside is may =
+    let plain : Installation = appended w r u.ring.gates in
+    let parts = append_turns opened w plain seats now r small long refl (ap (λ (x : Installation). ring_of x.ring.state) (sym step) ∙ ring) is (omega (arith, may.log, beside.free)) (omega (arith, may.log, beside.free)) (omega (arith, may.records, beside.next)) (omega (arith, may.positions, beside.next))
+    (λ i h e. let found = may.numbers i h e in let both = is.numbers found.0 found.1 found.2 in (omega (arith, both.0, found.3), omega (arith, both.1, found.3))) in
+    let same : u.ring ≡ plain.ring = ap (λ (x : Installation). x.ring) step in
+    let next : u.ring.state.next ≡ plain.ring.state.next = ap (λ (x : RingValue). x.state.next) same in
+    let need : u.anchor.need ≡ plain.anchor.need = ap (λ (x : Installation). x.anchor.need) step in
+    let reached : u.reached ≡ plain.reached = ap (λ (x : Installation). x.reached) step in
+    record {
+      room = subst (λ (x : RingValue). HasRoom x.config x.state) (sym same) parts.room;
+      log = subst (λ (x : RingValue). owed_of now ≤ free x.config x.state.reuse (ring_of x.state)) (sym same) parts.log;
+      records = omega (arith, next, parts.records);
+      positions = omega (arith, next, parts.positions);
+      at_end = omega (arith, next, reached, parts.at_end);
+      need = omega (arith, next, need, parts.need);
+      numbers = λ i h e. let both = parts.numbers i h e in (omega (arith, need, both.0), omega (arith, next, both.1));
+    }
+
 pub flush_turns : (opened : ℕ) (v w : Installation) (seats : List Seat) → w ≡ flushed v w.ring.gates → ring_of w.ring.state ≡ flushed_ring (config_in v) (ring_of v.ring.state) (last_behind v) → HasTurns opened v seats → HasTurns opened w seats
 flush_turns opened v w seats step ring is =
     let next : w.ring.state.next ≡ v.ring.state.next = ap (λ (x : Installation). x.ring.state.next) step ∙ (flushed_first v.ring.state).1 in
@@ -122,11 +137,9 @@ flush_turns opened v w seats step ring is =
       numbers = λ i h e. let both = is.numbers i h e in (omega (arith, both.0, need), omega (arith, both.1, next));
     }
 
-pub checkpoint_turns : (opened : ℕ) (v w : Installation) (seats : List Seat) → 1 ≤ v.ring.state.next → IsGoing v → w ≡ checkpointed v (need_of v seats) v.anchor.next_archive w.ring.gates → ring_of w.ring.state ≡ flushed_ring (config_in v) (ring_of v.ring.state) (last_behind v) → HasTurns opened v seats → HasTurns opened w seats
-checkpoint_turns opened v w seats some going step ring is =
-    let next : w.ring.state.next ≡ v.ring.state.next = ap (λ (x : Installation). x.ring.state.next) step ∙ (flushed_first v.ring.state).1 in
-    let need : w.anchor.need ≡ need_of v seats = ap (λ (x : Installation). x.anchor.need) step in
-    let reached : w.reached ≡ v.reached = ap (λ (x : Installation). x.reached) step in
+-- a checkpoint leaves as much free
+pub checkpoint_free : (opened : ℕ) (v w : Installation) (seats : List Seat) → 1 ≤ v.ring.state.next → IsGoing v → w ≡ checkpointed v (need_of v seats) v.anchor.next_archive w.ring.gates → ring_of w.ring.state ≡ flushed_ring (config_in v) (ring_of v.ring.state) (last_behind v) → HasTurns opened v seats → free_of v ≤ free_of w
+checkpoint_free opened v w seats some going step ring is =
     let bounds = need_within opened v seats some is in
     let config : w.ring.config ≡ v.ring.config = ap (λ (x : Installation). x.ring.config) step in
     let before : v.ring.state.reuse ≡ (let m : Reuse = record { backed = v.anchor.backed; need = v.anchor.need } in m) = going.reuse in
@@ -140,7 +153,15 @@ checkpoint_turns opened v w seats some going step ring is =
     ap (λ (c : Config). free c w.ring.state.reuse (ring_of w.ring.state)) config ∙ ap (λ (m : Reuse). free v.ring.config m (ring_of w.ring.state)) reuse ∙ ap (λ (q : Ring). free v.ring.config new q) ring in
     let raised = more_free v.ring.config old new (ring_of v.ring.state) (omega arith) bounds.0 in
     let kept = flushed_free v.ring.config new (ring_of v.ring.state) (last_behind v) in
-    let more : free_of v ≤ free_of w = omega (arith, first, last, raised, kept) in
+    omega (arith, first, last, raised, kept)
+
+pub checkpoint_turns : (opened : ℕ) (v w : Installation) (seats : List Seat) → 1 ≤ v.ring.state.next → IsGoing v → w ≡ checkpointed v (need_of v seats) v.anchor.next_archive w.ring.gates → ring_of w.ring.state ≡ flushed_ring (config_in v) (ring_of v.ring.state) (last_behind v) → HasTurns opened v seats → HasTurns opened w seats
+checkpoint_turns opened v w seats some going step ring is =
+    let next : w.ring.state.next ≡ v.ring.state.next = ap (λ (x : Installation). x.ring.state.next) step ∙ (flushed_first v.ring.state).1 in
+    let need : w.anchor.need ≡ need_of v seats = ap (λ (x : Installation). x.anchor.need) step in
+    let reached : w.reached ≡ v.reached = ap (λ (x : Installation). x.reached) step in
+    let bounds = need_within opened v seats some is in
+    let more = checkpoint_free opened v w seats some going step ring is in
     record {
       room = empty_room w (ap (λ (x : Installation). x.ring.state.buffer) step ∙ flushed_empty v.ring.state);
       log = omega (arith, is.log, more);
@@ -185,3 +206,42 @@ risen_both a b v w u first second = record {
   generation = omega (arith, first.generation, second.generation);
   archive = omega (arith, first.archive, second.archive);
 }
+
+-- a change raises as little as its record
+pub change_rises : (w u : Installation) (r : Record) → u ≡ with_store (appended w r u.ring.gates) u.store → HasRisen 1 w u
+change_rises w u r step =
+    let plain : Installation = appended w r u.ring.gates in
+    let is = append_rises w plain r refl in
+    record {
+      uniq = subst (λ (x : Installation). x.ring.state.files.uniq ≤ w.ring.state.files.uniq + 1) (sym step) is.uniq;
+      serial = subst (λ (x : Installation). x.anchor.serial ≤ w.anchor.serial + 1) (sym step) is.serial;
+      generation = subst (λ (x : Installation). x.anchor.generation ≤ w.anchor.generation + 1) (sym step) is.generation;
+      archive = subst (λ (x : Installation). x.anchor.next_archive ≤ w.anchor.next_archive + 1) (sym step) is.archive;
+    }
+
+-- what a checkpoint leaves beside it
+pub checkpoint_beside : (v w : Installation) (need : ℕ) → w ≡ checkpointed v need v.anchor.next_archive w.ring.gates → free_of v ≤ free_of w → IsBeside v w
+checkpoint_beside v w need step more = record {
+  config = ap (λ (x : Installation). x.ring.config) step;
+  states = ap (λ (x : Installation). x.anchor.states) step;
+  frames = ap (λ (x : Installation). x.store.pool.spaces) step;
+  before = ap (λ (x : Installation). x.store.before) step;
+  next = ap (λ (x : Installation). x.ring.state.next) step ∙ (flushed_first v.ring.state).1;
+  free = more;
+  flushed = subst (λ (x : Installation). flushed_of v ≤ flushed_of x) (sym step) (omega (arith, (flushed_first v.ring.state).0));
+}
+
+-- the same ring, anchor and pages leave the same room
+pub turns_beside : (opened : ℕ) (v w : Installation) (seats : List Seat) → w.ring ≡ v.ring → w.anchor ≡ v.anchor → w.reached ≡ v.reached → HasTurns opened v seats → HasTurns opened w seats
+turns_beside opened v w seats ring anchor reached is =
+    let next : w.ring.state.next ≡ v.ring.state.next = ap (λ (r : RingValue). r.state.next) ring in
+    let need : w.anchor.need ≡ v.anchor.need = ap (λ a. a.need) anchor in
+    record {
+      room = subst (λ (r : RingValue). HasRoom r.config r.state) (sym ring) is.room;
+      log = subst (λ (r : RingValue). owed_of seats ≤ free r.config r.state.reuse (ring_of r.state)) (sym ring) is.log;
+      records = omega (arith, next, is.records);
+      positions = omega (arith, next, is.positions);
+      at_end = omega (arith, next, reached, is.at_end);
+      need = omega (arith, next, need, is.need);
+      numbers = λ i h e. let both = is.numbers i h e in (omega (arith, need, both.0), omega (arith, next, both.1));
+    }

@@ -16,7 +16,7 @@ use Rattle.ol_log_state.specs.RingState.{ring_of}
 use Rattle.ol_loglog.specs.RingValue.{HasRoom}
 use Rattle.ol_physlog.specs.declared.place.Place.{Place}
 use Rattle.ol_storage.specs.Behind.{Behind}
-use Rattle.ol_storage.specs.Installation.{Installation, checkpointed}
+use Rattle.ol_storage.specs.Installation.{Installation, checkpointed, flushed_of}
 use Rattle.ol_txn.specs.Seats.{Seat, table_of}
 use Rattle.ol_txn.specs.Seats.{seat_of as locks_of}
 use Rattle.ol_txn.specs.Telling.{Tells, held}
@@ -157,9 +157,23 @@ HasNoEntry s space page = (is_touched s.log space page ≡ false) × (s.log.area
 abbrev pub ready_for : ℕ × ℕ → Machine → Machine
 ready_for p m = if needs_checkpoint m p then make_checkpoint m else m
 
--- the configuration, the spaces that are up, the pages in memory and the captured images are the same
+-- the configuration, the spaces that are up, the pages in memory, the captured images and the last position are the same, and no less is free and flushed
 pub record IsBeside (v w : Installation) : Type 0 where
   pub config : w.ring.config ≡ v.ring.config
   pub states : w.anchor.states ≡ v.anchor.states
   pub frames : w.store.pool.spaces ≡ v.store.pool.spaces
   pub before : w.store.before ≡ v.store.before
+  pub next : w.ring.state.next ≡ v.ring.state.next
+  pub free : free_of v ≤ free_of w
+  pub flushed : flushed_of v ≤ flushed_of w
+
+-- an anchor is the one before or that of a checkpoint made then
+abbrev pub IsEither : Installation → List Seat → Anchor → Type 0
+IsEither v seats a = (a ≡ v.anchor) ⊎ (a ≡ anchor_made v seats)
+
+-- a table that may stand behind a record: it owes what there is room for, and its open transactions were open before
+pub record MayFollow (opened : ℕ) (v : Installation) (seats now : List Seat) : Type 0 where
+  pub log : owed_of now + 1 ≤ free_of v
+  pub records : last_in v - opened + 1 + owed_of now ≤ 1048576
+  pub positions : last_in v + 2 + owed_of now ≤ 2 ^ 62
+  pub numbers : (i : ℕ) (h : Holding) → held (table_of now) i ≡ Some h → (j : ℕ) × (g : Holding) × (held (table_of seats) j ≡ Some g) × (g.number ≡ h.number)

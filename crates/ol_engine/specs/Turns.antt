@@ -1,5 +1,5 @@
 -- How turns over the parts answer.
-use Rattle.std.specs.Prelude.{Bool, Err, None, Ok, Option, Result, Some, false, if◌then◌else◌, nat_lt, ℕ, ◌+◌, ◌-◌, ◌^◌, ◌||◌, ◌≡◌, List}
+use Rattle.std.specs.Prelude.{Bool, Err, None, Ok, Option, Result, Some, false, if◌then◌else◌, nat_lt, ℕ, ◌+◌, ◌-◌, ◌^◌, ◌||◌, ◌≡◌, ◌≤◌, List}
 use Rattle.ol_values.specs.declared.event.Reply.{Reply}
 use Rattle.ol_values.specs.declared.event.Reply.TheVariants.{JournalFull, LogsFull}
 use Rattle.ol_values.specs.declared.record.Record.{Record}
@@ -33,6 +33,12 @@ no_room_of opened v seats =
     if is_journal_full opened v seats then Some JournalFull
     else if is_log_full v seats then Some (LogsFull (blocker (config_of v) v.ring.state.reuse (ring_of v.ring.state)))
     else None
+
+-- the log and the journal have room for a record more and what that owes
+pub record HasMore (opened : ℕ) (v : Installation) (seats : List Seat) : Type 0 where
+  pub log : owed_of seats + 2 ≤ free_of v
+  pub records : last_in v - opened + owed_of seats + 2 ≤ 1048576
+  pub positions : last_in v + 1 + owed_of seats + 2 ≤ 2 ^ 62
 
 -- ---- answers
 

@@ -5,6 +5,6 @@ mod change;
 mod checkpoint;
 mod room;
 
-pub use change::make_entry;
+pub use change::{change_row, make_entry};
 pub use checkpoint::make_checkpoint;
 pub use room::no_room;

@@ -1,8 +1,8 @@
 //! The refusals of a turn with a record, for want of room.
 
-ghost use Rattle.std.specs.Prelude.{◌≡◌, ◌≤◌, ◌<◌, ◌+◌, ◌-◌, ◌^◌, ◌||◌, ℕ, nat_lt};
+ghost use Rattle.std.specs.Prelude.{◌≡◌, ◌≤◌, ◌<◌, ◌+◌, ◌-◌, ◌^◌, ◌||◌, None, ℕ, nat_lt};
 ghost use Rattle.ol_engine.specs.Parts.{last_in, owed_of};
-ghost use Rattle.ol_engine.specs.Turns.{is_journal_full, no_room_of};
+ghost use Rattle.ol_engine.specs.Turns.{HasMore, is_journal_full, no_room_of};
 
 use ol_ports::Disk;
 use ol_storage::Storage;
@@ -19,7 +19,8 @@ const MOST: u64 = 4611686018427387904;
 /// owed: `JournalFull`, or `LogsFull` with the unique number of the log file that is in the way. `opened` is the journal's length
 /// as the opening ended.
 pub fn no_room<D: Disk>(storage: &Storage<D>, locks: &Locks, opened: u64) -> Option<Reply>
-    ensures { result ≡ no_room_of opened storage.now.now locks.now }
+    ensures value { result ≡ no_room_of opened storage.now.now locks.now }
+    ensures more { result ≡ None → HasMore opened storage.now.now locks.now }
 {
     let log = storage.log();
     let owed = locks.owed();

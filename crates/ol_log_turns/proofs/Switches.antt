@@ -1,4 +1,4 @@
--- A page that is cleaned, and a log file that is closed: what is left of room, and what the parts show.
+-- A log file that is closed: what is left of room, and what the parts show.
 use Rattle.std.specs.Prelude.{Bool, List, None, Option, Some, [], false, if◌then◌else◌, is_some, nat_lt, not, slice_get, true, ℕ, ◌+◌, ◌-◌, ◌<◌, ◌==◌, ◌∷◌, ◌≡◌, ◌≤◌}
 use Rattle.std.proofs.Common.{ap, arith, refl, subst, sym, ◌∙◌}
 use Rattle.std.proofs.lemmas.Bool.Decides.{nat_tests}
@@ -23,25 +23,6 @@ use Rattle.ol_engine.proofs.Rooms.{finds}
 use Rattle.ol_engine.proofs.Seats.{same_shows}
 use Rattle.ol_engine.proofs.Steps.{empty_room, flushed_reuse, flushed_uniq}
 use Rattle.ol_log_turns.specs.Closing.{may_close, may_close_use}
-
--- ---- the parts that turns count on
-
--- the same ring, anchor and pages leave the same room
-pub turns_beside : (opened : ℕ) (v w : Installation) (seats : List Seat) → w.ring ≡ v.ring → w.anchor ≡ v.anchor → w.reached ≡ v.reached → HasTurns opened v seats → HasTurns opened w seats
-turns_beside opened v w seats ring anchor reached is =
-    let next : w.ring.state.next ≡ v.ring.state.next = ap (λ (r : RingValue). r.state.next) ring in
-    let need : w.anchor.need ≡ v.anchor.need = ap (λ a. a.need) anchor in
-    record {
-      room = subst (λ (r : RingValue). HasRoom r.config r.state) (sym ring) is.room;
-      log = subst (λ (r : RingValue). owed_of seats ≤ free r.config r.state.reuse (ring_of r.state)) (sym ring) is.log;
-      records = omega (arith, next, is.records);
-      positions = omega (arith, next, is.positions);
-      at_end = omega (arith, next, reached, is.at_end);
-      need = omega (arith, next, need, is.need);
-      numbers = λ i h e. let both = is.numbers i h e in (omega (arith, need, both.0), omega (arith, next, both.1));
-    }
-
--- ---- the switch
 
 same_use : (m : Machine) (o : Option Use) → may_close_use (config_of m) m.log.ring o ≡ can_switch m o
 same_use m None = refl

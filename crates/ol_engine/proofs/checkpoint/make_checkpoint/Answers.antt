@@ -13,7 +13,7 @@ use Rattle.ol_engine.proofs.Lows.{need_is, need_within}
 use Rattle.ol_engine.proofs.Results.{ok_from, when_false}
 use Rattle.ol_engine.proofs.Seats.{same_shows}
 use Rattle.ol_engine.proofs.Steps.{checkpoint_shows}
-use Rattle.ol_engine.proofs.Turns.{checkpoint_rises, checkpoint_turns}
+use Rattle.ol_engine.proofs.Turns.{checkpoint_free, checkpoint_turns}
 use Rattle.ol_engine.proofs.checkpoint.make_checkpoint.Goals as goal
 
 pub checkpoint-requires-clause-need : goal.checkpoint-requires-clause-need
@@ -49,6 +49,19 @@ returns-clause-turns g c opened turns =
     (subst (λ n. c.checkpoint.new.self.now ≡ checkpointed v n v.anchor.next_archive c.checkpoint.new.self.now.ring.gates) need
     (subst (λ k. c.checkpoint.new.self.now ≡ checkpointed v c.unwrap_or-need.result k c.checkpoint.new.self.now.ring.gates) archive step))
     ring turns)
+
+pub returns-clause-free : goal.returns-clause-free
+returns-clause-free g c =
+    let v = c.args.storage.now.now in
+    ok_from c.checkpoint.result c.checkpoint.ensures.step c.checkpoint.ensures.ring (λ step ring.
+    let need : c.unwrap_or-need.result ≡ need_of v c.args.locks.now = search rules in
+    let low : 1 ≤ v.ring.state.next = omega (arith, c.is_stopped-going.ensures.ring.limits.first) in
+    let going = when_false _ _ c.is_stopped-going.ensures.going (c.is_stopped-going.ensures.value ∙ c.requires.going) in
+    let archive : c.anchor.result.now.next_archive ≡ v.anchor.next_archive = ap (λ (a : Anchor). a.next_archive) c.anchor.ensures in
+    checkpoint_free c.requires.turns.0 v c.checkpoint.new.self.now c.args.locks.now low going
+    (subst (λ n. c.checkpoint.new.self.now ≡ checkpointed v n v.anchor.next_archive c.checkpoint.new.self.now.ring.gates) need
+    (subst (λ k. c.checkpoint.new.self.now ≡ checkpointed v c.unwrap_or-need.result k c.checkpoint.new.self.now.ring.gates) archive step))
+    ring c.requires.turns.1)
 
 pub returns-clause-stops : goal.returns-clause-stops
 returns-clause-stops g c tells opened m registers before shows regular is =

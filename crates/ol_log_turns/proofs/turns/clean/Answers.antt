@@ -6,8 +6,7 @@ use Rattle.ol_ports.specs.Stops.{Stops}
 use Rattle.ol_storage.specs.Installation.{Installation, cleaned, cleaned_ring, config_of, flushed, flushed_of}
 use Rattle.ol_storage.specs.Standing.{StandsFrom}
 use Rattle.ol_engine.specs.Parts.{behind_of}
-use Rattle.ol_engine.proofs.Turns.{flush_turns}
-use Rattle.ol_log_turns.proofs.Switches.{turns_beside}
+use Rattle.ol_engine.proofs.Turns.{flush_turns, turns_beside}
 use Rattle.ol_log_turns.proofs.turns.clean.Goals as goal
 
 pub returns-in-Ok-Some-clause-turns : goal.returns-in-Ok-Some-clause-turns

@@ -42,7 +42,7 @@ returns-in-Some-clause-answer g c m registers shows regular =
     let v = c.args.storage.now.now in
     let going = when_false _ _ c.is_stopped-stands.ensures.going (c.is_stopped-stands.ensures.value ∙ c.requires.going) in
     let idle = none_open _ (sym c.is_open.ensures.value ∙ c.if-is_open.false) in
-    let is = begin_refused c.args.opened v c.args.locks.now registers m c.args.session c.requires.session shows c.in-Some.refusal going idle (sym c.no_room.ensures ∙ c.in-Some.is) in
+    let is = begin_refused c.args.opened v c.args.locks.now registers m c.args.session c.requires.session shows c.in-Some.refusal going idle (sym c.no_room.ensures.value ∙ c.in-Some.is) in
     subst (λ (r : Reply × Machine). (c.in-Some.refusal ≡ r.0) × Shows c.args.opened v c.args.locks.now registers r.1) (sym is) (refl, shows)
 
 pub returns-in-Some-clause-stops : goal.returns-in-Some-clause-stops
@@ -50,7 +50,7 @@ returns-in-Some-clause-stops g c tells m registers before shows regular stored =
     let v = c.args.storage.now.now in
     let going = when_false _ _ c.is_stopped-stands.ensures.going (c.is_stopped-stands.ensures.value ∙ c.requires.going) in
     let idle = none_open _ (sym c.is_open.ensures.value ∙ c.if-is_open.false) in
-    let is = begin_refused c.args.opened v c.args.locks.now registers m c.args.session c.requires.session shows c.in-Some.refusal going idle (sym c.no_room.ensures ∙ c.in-Some.is) in
+    let is = begin_refused c.args.opened v c.args.locks.now registers m c.args.session c.requires.session shows c.in-Some.refusal going idle (sym c.no_room.ensures.value ∙ c.in-Some.is) in
     subst (λ (r : Reply × Machine). Stops (g.D.Disk.past c.args.storage.now.disk) (g.D.Disk.past c.args.storage.now.disk) (StandsWithinTurn v before r.1)) (sym is)
     (stops_none _ _ (λ d rest. rest_stops v before m d shows.storage.next (c.is_stopped-stands.ensures.stands tells (behind_of before m) stored d rest)))
 
@@ -59,5 +59,5 @@ returns-in-Some-clause-stored g c tells m registers before shows regular stored 
     let v = c.args.storage.now.now in
     let going = when_false _ _ c.is_stopped-stands.ensures.going (c.is_stopped-stands.ensures.value ∙ c.requires.going) in
     let idle = none_open _ (sym c.is_open.ensures.value ∙ c.if-is_open.false) in
-    let is = begin_refused c.args.opened v c.args.locks.now registers m c.args.session c.requires.session shows c.in-Some.refusal going idle (sym c.no_room.ensures ∙ c.in-Some.is) in
+    let is = begin_refused c.args.opened v c.args.locks.now registers m c.args.session c.requires.session shows c.in-Some.refusal going idle (sym c.no_room.ensures.value ∙ c.in-Some.is) in
     subst (λ (r : Reply × Machine). IsStored (g.D.Disk.past c.args.storage.now.disk) v (behind_of before r.1)) (sym is) stored
