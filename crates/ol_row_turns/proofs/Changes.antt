@@ -23,7 +23,7 @@ use Rattle.ol_rules.specs.Locks.{Holding, holder_of, low_in, owed_by_holding, ow
 use Rattle.ol_model.specs.Answering.{no_room, unless}
 use Rattle.ol_model.specs.Machine.{Machine, config_of, holder, last_of, row_in}
 use Rattle.ol_model.specs.Turns.{comes_first}
-use Rattle.ol_model.specs.Steps.{change_row}
+use Rattle.ol_model.specs.Steps.{append, change_row}
 use Rattle.ol_turn_laws.proofs.StepLaws.{before_even, unless_all}
 use Rattle.ol_turn_laws.specs.Room.{Regular}
 use Rattle.ol_storage.specs.Installation.{Installation, checkpointed, with_store}
@@ -260,3 +260,11 @@ pub row_stands : (v : Installation) (a : Anchor) (earlier : ℕ → Record) (m :
 row_stands v a earlier m o rid after d is s =
     unless_all (λ (k : Machine). StandsWithinEither v a earlier k d) m ((is_some (holder m o.session true rid), RowLocked (unwrap_or (holder m o.session true rid) 0)) ∷ (is_none (row_in m rid), NoRow) ∷ no_room m) (Changed rid, change_row o.entry rid (Change o.txn rid (row_in m rid) after) m)
     (inl s) (λ all. either_changed v a earlier o.entry rid (Change o.txn rid (row_in m rid) after) m d (either_more v a earlier m (Change o.txn rid (row_in m rid) after) d is (inl s)))
+
+-- a page that came into memory, and then a store with room beside it
+pub restored : (v w u : Installation) → w ≡ with_store v w.store → u ≡ with_store w u.store → u ≡ with_store v u.store
+restored v w u first second = second ∙ ap (λ (x : Installation). with_store x u.store) first
+
+-- where nothing was asked of the disk, an image stands for a record more
+pub record_stands : (v : Installation) (a : Anchor) (earlier : ℕ → Record) (m : Machine) (r : Record) (d : Bytes) → IsBehind (behind_of earlier m) → StandsWithinTurn v earlier m d → StandsWithinEither v a earlier (append r m) d
+record_stands v a earlier m r d is s = either_more v a earlier m r d is (inl s)

@@ -1,9 +1,12 @@
-//! The turns of sessions that change a row: each is the machine's turn over the storage, the lock table and the running archives.
+//! The turns of sessions that change a row, or take a change back: each is the machine's turn over the storage, the lock table and the running archives.
 #![tactic(auto)]
 
 mod images;
 mod owner;
+mod rollback;
 mod rows;
+mod values;
 
 pub use owner::Owner;
+pub use rollback::undo;
 pub use rows::change;

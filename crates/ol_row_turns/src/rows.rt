@@ -29,31 +29,12 @@ ghost use Rattle.ol_storage.specs.declared.storage.StorageFault.{StorageFault as
 
 use crate::images::{Archives, Images, ask_images, change_with_images};
 use crate::owner::Owner;
+use crate::values::{copy_of, is_short};
 use ol_engine::no_room;
 use ol_ports::Disk;
 use ol_storage::{Storage, StorageFault};
 use ol_txn::Locks;
 use ol_values::{Record, Reply, Rid, Row};
-
-// True; it tells that a row, if any, has at most 63 bytes.
-fn is_short(row: &Option<Row>) -> bool
-    ensures { is_value row.now ≡ true }
-{
-    match row {
-        Some(row) => row.as_slice().len() <= 63,
-        None => true,
-    }
-}
-
-// The same row again.
-fn copy_of(row: &Option<Row>) -> Option<Row>
-    ensures { result ≡ row.now }
-{
-    match row {
-        Some(row) => Some(row.copy()),
-        None => None,
-    }
-}
 
 /// Changes the row at a place for the transaction of a session: `after` takes the place of the row there, or none does, as a delete leaves
 /// it. The place is one of a space that is up. The page's image is kept first, where a running archive wants it; where as many are held as
