@@ -71,6 +71,13 @@ impl<D: Disk> Storage<D> {
         }
     }
 
+    /// The disk, to be asked for its counts of calls and faults.
+    pub fn disk(&self) -> &D
+        ensures { result.now ≡ self.now.disk }
+    {
+        &self.disk
+    }
+
     /// The log ring, to be asked without the disk.
     pub fn log(&self) -> &LogRing
         ensures { result.now ≡ self.now.now.ring }
