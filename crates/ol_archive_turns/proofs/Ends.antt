@@ -32,7 +32,7 @@ use Rattle.ol_cursor.specs.Order.{archives}
 use Rattle.ol_reserve.specs.declared.anchor.Anchor.{Anchor}
 use Rattle.ol_storage.specs.Installation.{Installation, flushed_of, with_lasting, with_store}
 use Rattle.ol_storage.specs.Installation.{config_of as config_in}
-use Rattle.ol_engine.specs.Parts.{HasTurns, Registers, Shows, ShowsStorage, behind_of, kept_in, lasting_in, space_in, touched_in}
+use Rattle.ol_engine.specs.Parts.{GoesOn, HasTurns, Registers, Shows, ShowsStorage, behind_of, kept_in, lasting_in, space_in, touched_in}
 use Rattle.ol_archive_turns.specs.Ending.{kept_of, known_at, lasting_ended}
 use Rattle.ol_archive_turns.proofs.Keeps.{HasKept, keeps}
 use Rattle.ol_archive_turns.proofs.KnownLaws.{kept_if, space_one, space_zero}
@@ -176,3 +176,12 @@ either_rest v a before m d next s =
     ⊎_elim
     (λ old. inl (stands_wider (config_in v) (behind_of before m) v.anchor (flushed_of v) (flushed_of v) (flushed_of v) (last_record m) d (omega arith) (omega (arith, next)) old))
     (λ new. inr (stands_wider (config_in v) (behind_of before m) a (flushed_of v) (flushed_of v) (flushed_of v) (last_record m) d (omega arith) (omega (arith, next)) new)) s
+
+-- the engine goes on where an archive is made known
+pub known_goes : (v w : Installation) (c : Cursor) (level : ℕ) → v.stopped ≡ false → w ≡ known_at v c level → GoesOn v w
+known_goes v w c level going step = subst (λ (x : Installation). GoesOn v x) (sym step) (go level)
+  where
+    go : (n : ℕ) → GoesOn v (known_at v c n)
+    go zero = record { going = going; config = refl; states = refl }
+    go (suc zero) = record { going = going; config = refl; states = refl }
+    go (suc (suc n)) = record { going = going; config = refl; states = refl }

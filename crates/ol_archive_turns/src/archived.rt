@@ -2,7 +2,7 @@
 
 ghost use Rattle.std.specs.Prelude.{◌≡◌, IfErr, List, None, OnErr, OnOk, Some, false, true, ℕ};
 ghost use Rattle.ol_values.specs.declared.record.Record.{Record as RecordValue};
-ghost use Rattle.ol_engine.specs.Parts.{HasRisen, HasTurns, MayRise, Registers, behind_of};
+ghost use Rattle.ol_engine.specs.Parts.{GoesOn, HasRisen, HasTurns, MayRise, Registers, behind_of};
 ghost use Rattle.ol_engine.specs.Turns.{Answers, StandsWithinEither};
 ghost use Rattle.ol_model.specs.Machine.{Machine};
 ghost use Rattle.ol_ports.specs.Stops.{Stops};
@@ -42,6 +42,7 @@ pub fn end<D: Disk>(
         → Answers m (Tells opened storage.new.now seats registers archives.new) (end_turn m archiver) result }
     ensures turns { (opened : ℕ) (seats : List Seat) → HasTurns opened storage.old.now seats → OnOk result (HasTurns opened storage.new.now seats) }
     ensures risen { OnOk result (HasRisen 1 storage.old.now storage.new.now) }
+    ensures goes { OnOk result (GoesOn storage.old.now storage.new.now) }
     ensures up { AreAllUp storage.old.now.anchor archives.old → OnOk result (AreAllUp storage.new.now.anchor archives.new) }
     ensures numbers { AreNumbered archives.new }
     ensures kept { OnErr result (archives.new ≡ archives.old) }
@@ -83,6 +84,7 @@ fn end_whole<D: Disk>(
         → Answers m (Tells opened storage.new.now seats registers archives.new) (end_turn m archiver) result }
     ensures turns { (opened : ℕ) (seats : List Seat) → HasTurns opened storage.old.now seats → OnOk result (HasTurns opened storage.new.now seats) }
     ensures risen { OnOk result (HasRisen 1 storage.old.now storage.new.now) }
+    ensures goes { OnOk result (GoesOn storage.old.now storage.new.now) }
     ensures up { AreAllUp storage.old.now.anchor archives.old → OnOk result (AreAllUp storage.new.now.anchor archives.new) }
     ensures numbers { AreNumbered archives.new }
     ensures kept { OnErr result (archives.new ≡ archives.old) }

@@ -40,7 +40,7 @@ pub fn cancel<D: Disk>(
     ensures turns { (opened : ℕ) (seats : List Seat) → HasTurns opened storage.old.now seats → HasTurns opened storage.new.now seats }
     ensures up { AreAllUp storage.old.now.anchor archives.old → AreAllUp storage.new.now.anchor archives.new }
     ensures numbers { AreNumbered archives.old → AreNumbered archives.new }
-    ensures stopped { storage.new.now.stopped ≡ storage.old.now.stopped }
+    ensures step { storage.new.now ≡ with_store storage.old.now storage.new.now.store }
     ensures disk { storage.new.disk ≡ storage.old.disk }
     ensures stored { D.tells → (g : Behind) → IsStored (D.past storage.old.disk) storage.old.now g → IsStored (D.past storage.new.disk) storage.new.now g }
 {

@@ -8,3 +8,4 @@ pub mod Turns
 pub mod Stops
 pub mod Entries
 pub mod Changes
+pub mod Going

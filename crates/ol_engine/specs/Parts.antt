@@ -167,6 +167,12 @@ pub record IsBeside (v w : Installation) : Type 0 where
   pub free : free_of v ≤ free_of w
   pub flushed : flushed_of v ≤ flushed_of w
 
+-- no call has failed, and the configuration and the spaces that are up are the same
+pub record GoesOn (v w : Installation) : Type 0 where
+  pub going : w.stopped ≡ false
+  pub config : w.ring.config ≡ v.ring.config
+  pub states : w.anchor.states ≡ v.anchor.states
+
 -- an anchor is the one before or that of a checkpoint made then
 abbrev pub IsEither : Installation → List Seat → Anchor → Type 0
 IsEither v seats a = (a ≡ v.anchor) ⊎ (a ≡ anchor_made v seats)

@@ -20,7 +20,7 @@ ghost use Rattle.ol_storage.specs.Storing.{IsStored};
 ghost use Rattle.ol_store.specs.Stores.{CanCapture, IsStore, image_with};
 ghost use Rattle.ol_turn_laws.specs.Room.{Regular};
 ghost use Rattle.ol_txn.specs.Seats.{Seat};
-ghost use Rattle.ol_engine.specs.Parts.{HasEntry, HasNoEntry, HasRisen, HasTurns, IsBeside, IsEither, MayFollow, MayRise, Registers, Shows, ShowsStorage, anchor_made, behind_of, free_of, ready_for};
+ghost use Rattle.ol_engine.specs.Parts.{GoesOn, HasEntry, HasNoEntry, HasRisen, HasTurns, IsBeside, IsEither, MayFollow, MayRise, Registers, Shows, ShowsStorage, anchor_made, behind_of, free_of, ready_for};
 ghost use Rattle.ol_engine.specs.Turns.{StandsWithinEither};
 
 use crate::checkpoint::make_checkpoint;
@@ -102,6 +102,7 @@ pub fn change_row<D: Disk>(
     ensures shows { (opened n : ℕ) (m : Machine) (registers : Registers) → Shows opened storage.old.now locks.now registers m → Regular m → OnOk result (ShowsStorage storage.new.now (row_changed n rid rec.now m)) }
     ensures turns { (opened : ℕ) (now : List Seat) → HasTurns opened storage.old.now locks.now → MayFollow opened storage.old.now locks.now now → OnOk result (HasTurns opened storage.new.now now) }
     ensures risen { OnOk result (HasRisen 2 storage.old.now storage.new.now) }
+    ensures goes { OnOk result (GoesOn storage.old.now storage.new.now) }
     ensures kept { capture ≡ false → OnOk result (storage.new.now.store.before ≡ storage.old.now.store.before) }
     ensures captured { D.tells → (opened : ℕ) (m : Machine) (registers : Registers) (before : ℕ → RecordValue) → Shows opened storage.old.now locks.now registers m → Regular m → IsStored (D.past storage.old.disk) storage.old.now (behind_of before m) → capture ≡ true
         → OnOk result (storage.new.now.store.before ≡ captured (image_with rid.space rid.page (page_bytes (page_behind m.work.start m.work.records rid.space rid.page))) storage.old.now.store.before) }

@@ -9,7 +9,7 @@ ghost use Rattle.ol_storage.specs.Causes.{HasStorageCause};
 ghost use Rattle.ol_storage.specs.Installation.{checkpointed, config_of};
 ghost use Rattle.ol_storage.specs.Storing.{IsStored};
 ghost use Rattle.ol_turn_laws.specs.Room.{Regular};
-ghost use Rattle.ol_engine.specs.Parts.{HasRisen, HasTurns, MayRise, Registers, Shows, anchor_made, behind_of, free_of, need_of};
+ghost use Rattle.ol_engine.specs.Parts.{GoesOn, HasRisen, HasTurns, MayRise, Registers, Shows, anchor_made, behind_of, free_of, need_of};
 ghost use Rattle.ol_engine.specs.Turns.{StandsWithinEither};
 
 use ol_ports::Disk;
@@ -26,6 +26,7 @@ pub fn make_checkpoint<D: Disk>(storage: &mut Storage<D>, locks: &Locks) -> Resu
     ensures step { OnOk result (storage.new.now ≡ checkpointed storage.old.now (need_of storage.old.now locks.now) storage.old.now.anchor.next_archive storage.new.now.ring.gates) }
     ensures shows { (opened : ℕ) (m : Machine) (registers : Registers) → Shows opened storage.old.now locks.now registers m → Regular m → OnOk result (Shows opened storage.new.now locks.now registers (checkpoint_of m)) }
     ensures turns { (opened : ℕ) → HasTurns opened storage.old.now locks.now → OnOk result (HasTurns opened storage.new.now locks.now) }
+    ensures goes { OnOk result (GoesOn storage.old.now storage.new.now) }
     ensures free { OnOk result (free_of storage.old.now ≤ free_of storage.new.now) }
     ensures risen { OnOk result (HasRisen 1 storage.old.now storage.new.now) }
     ensures stops { D.tells → (opened : ℕ) (m : Machine) (registers : Registers) (before : ℕ → Record) → Shows opened storage.old.now locks.now registers m → Regular m → IsStored (D.past storage.old.disk) storage.old.now (behind_of before m)

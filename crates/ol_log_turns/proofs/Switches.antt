@@ -1,24 +1,23 @@
 -- A log file that is closed: what is left of room, and what the parts show.
-use Rattle.std.specs.Prelude.{Bool, List, None, Option, Some, [], false, if◌then◌else◌, is_some, nat_lt, not, slice_get, true, ℕ, ◌+◌, ◌-◌, ◌<◌, ◌==◌, ◌∷◌, ◌≡◌, ◌≤◌}
+use Rattle.std.specs.Prelude.{List, None, Option, Some, false, nat_lt, true, ℕ, ◌+◌, ◌<◌, ◌≡◌, ◌≤◌}
 use Rattle.std.proofs.Common.{ap, arith, refl, subst, sym, ◌∙◌}
 use Rattle.std.proofs.lemmas.Bool.Decides.{nat_tests}
 use Rattle.ol_values.specs.Config.{Config}
 use Rattle.ol_values.specs.declared.event.Reply.{Reply}
-use Rattle.ol_values.specs.declared.event.Reply.TheVariants.{LogsFull, NothingToBack, Switched}
-use Rattle.ol_rules.specs.Ring.{Reuse, Ring, Use, blocker, free, free_after_switch, held, switched_off, use_numbered}
+use Rattle.ol_values.specs.declared.event.Reply.TheVariants.{LogsFull, Switched}
+use Rattle.ol_rules.specs.Ring.{Reuse, Ring, Use, blocker, free, free_after_switch, switched_off, use_numbered}
 use Rattle.ol_rules.specs.Ring.{flushed as flushed_ring}
 use Rattle.ol_model.specs.LogTurns.{can_switch, switch_turn}
 use Rattle.ol_model.specs.Machine.{Machine, config_of, formatted, last_of, owed_in, reuse_of, with_ring}
 use Rattle.ol_model.specs.Steps.{flush}
 use Rattle.ol_turn_laws.proofs.SwitchLaws.{switched_free}
-use Rattle.ol_log_state.specs.RingState.{RingState, ring_of, switched}
+use Rattle.ol_log_state.specs.RingState.{ring_of}
 use Rattle.ol_loglog.proofs.Readies.{flushed_empty}
-use Rattle.ol_loglog.specs.RingValue.{HasRoom, RingValue, flushed_state}
 use Rattle.ol_storage.proofs.LogSteps.{flushed_first}
-use Rattle.ol_storage.specs.Installation.{Installation, IsGoing, closed, flushed}
+use Rattle.ol_storage.specs.Installation.{Installation, IsGoing, closed}
 use Rattle.ol_storage.specs.Installation.{config_of as config_in, last_of as last_behind}
 use Rattle.ol_txn.specs.Seats.{Seat}
-use Rattle.ol_engine.specs.Parts.{HasRisen, HasTurns, Registers, Shows, ShowsStorage, free_of, lasting_in, last_in, owed_of, touched_in}
+use Rattle.ol_engine.specs.Parts.{HasRisen, HasTurns, Registers, Shows, ShowsStorage, free_of, lasting_in, owed_of, touched_in}
 use Rattle.ol_engine.proofs.Rooms.{finds}
 use Rattle.ol_engine.proofs.Seats.{same_shows}
 use Rattle.ol_engine.proofs.Steps.{empty_room, flushed_reuse, flushed_uniq}

@@ -11,7 +11,7 @@ ghost use Rattle.ol_storage.specs.Storing.{IsStored};
 ghost use Rattle.ol_loglog.specs.RingValue.{HasRoom};
 ghost use Rattle.ol_turn_laws.specs.Room.{Regular};
 ghost use Rattle.ol_txn.specs.Seats.{Seat};
-ghost use Rattle.ol_engine.specs.Parts.{HasRisen, HasTurns, MayRise, Registers, Shows, anchor_made, behind_of};
+ghost use Rattle.ol_engine.specs.Parts.{GoesOn, HasRisen, HasTurns, MayRise, Registers, Shows, anchor_made, behind_of};
 ghost use Rattle.ol_log_turns.specs.Closing.{may_close};
 ghost use Rattle.ol_engine.specs.Turns.{Answers, StandsWithinEither, StandsWithinTurn};
 
@@ -33,6 +33,7 @@ pub fn checkpoint<D: Disk>(storage: &mut Storage<D>, locks: &Locks) -> Result<Re
     ensures turns { (opened : ℕ) → HasTurns opened storage.old.now locks.now → OnOk result (HasTurns opened storage.new.now locks.now) }
     ensures risen { OnOk result (HasRisen 1 storage.old.now storage.new.now) }
     ensures images { OnOk result (storage.new.now.store.before ≡ storage.old.now.store.before) }
+    ensures goes { OnOk result (GoesOn storage.old.now storage.new.now) }
     ensures stops { D.tells → (opened : ℕ) (m : Machine) (registers : Registers) (before : ℕ → RecordValue) → Shows opened storage.old.now locks.now registers m → Regular m → IsStored (D.past storage.old.disk) storage.old.now (behind_of before m)
         → Stops (D.past storage.old.disk) (D.past storage.new.disk) (StandsWithinEither storage.old.now (anchor_made storage.old.now locks.now) before m) }
     ensures stored { D.tells → (opened : ℕ) (m : Machine) (registers : Registers) (before : ℕ → RecordValue) → Shows opened storage.old.now locks.now registers m → Regular m → IsStored (D.past storage.old.disk) storage.old.now (behind_of before m)
@@ -60,6 +61,7 @@ pub fn clean<D: Disk>(storage: &mut Storage<D>) -> Result<Reply, StorageFault>
     ensures turns { (opened : ℕ) (seats : List Seat) → HasTurns opened storage.old.now seats → OnOk result (HasTurns opened storage.new.now seats) }
     ensures risen { OnOk result (HasRisen 1 storage.old.now storage.new.now) }
     ensures images { OnOk result (storage.new.now.store.before ≡ storage.old.now.store.before) }
+    ensures goes { OnOk result (GoesOn storage.old.now storage.new.now) }
     ensures stops { D.tells → (m : Machine) (before : ℕ → RecordValue) → IsStored (D.past storage.old.disk) storage.old.now (behind_of before m)
         → Stops (D.past storage.old.disk) (D.past storage.new.disk) (StandsWithinTurn storage.old.now before m) }
     ensures stored { D.tells → (m : Machine) (before : ℕ → RecordValue) → IsStored (D.past storage.old.disk) storage.old.now (behind_of before m) → OnOk result (IsStored (D.past storage.new.disk) storage.new.now (behind_of before m)) }
@@ -87,6 +89,7 @@ pub fn switch<D: Disk>(storage: &mut Storage<D>, locks: &Locks) -> Result<Reply,
     ensures turns { (opened : ℕ) → HasTurns opened storage.old.now locks.now → OnOk result (HasTurns opened storage.new.now locks.now) }
     ensures risen { OnOk result (HasRisen 1 storage.old.now storage.new.now) }
     ensures images { OnOk result (storage.new.now.store.before ≡ storage.old.now.store.before) }
+    ensures goes { OnOk result (GoesOn storage.old.now storage.new.now) }
     ensures stops { D.tells → (m : Machine) (before : ℕ → RecordValue) → IsStored (D.past storage.old.disk) storage.old.now (behind_of before m)
         → Stops (D.past storage.old.disk) (D.past storage.new.disk) (StandsWithinTurn storage.old.now before m) }
     ensures stored { D.tells → (m : Machine) (before : ℕ → RecordValue) → IsStored (D.past storage.old.disk) storage.old.now (behind_of before m) → OnOk result (IsStored (D.past storage.new.disk) storage.new.now (behind_of before m)) }

@@ -42,7 +42,7 @@ sharing_some : (rid : Rid) (holding : Option Holding) → IsSome holding → IsS
 sharing_some rid None some = some
 sharing_some rid (Some h) some = some
 
-more_some : (rid : Rid) (s : LockSeat) → IsSome s.holding → IsSome (shared_more rid s).holding
+pub more_some : (rid : Rid) (s : LockSeat) → IsSome s.holding → IsSome (shared_more rid s).holding
 more_some rid s some = elim (cases_Bool (shares rid s.holding)) [ inl e ↦ rw e some | inr e ↦ rw e (sharing_some rid s.holding some) ]
 
 shares_is : (rid : Rid) (holding : Option Holding) → shares rid holding ≡ is_among rid (shared_in holding)

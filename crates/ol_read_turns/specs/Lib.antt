@@ -1,1 +1,2 @@
+pub mod PageSlots
 pub mod Sharing

@@ -45,7 +45,7 @@ use Rattle.ol_engine.proofs.Steps.{loaded_shows}
 use Rattle.ol_engine.proofs.Stops.{either_changed, either_more}
 use Rattle.ol_engine.proofs.Turns.{turns_beside}
 use Rattle.ol_engine.proofs.Tables.{held_seat, held_set, owed_set}
-use Rattle.ol_row_turns.specs.Turns.{Leaves, row_turn}
+use Rattle.ol_row_turns.specs.Turns.{Leaves, row_turn, written_turn}
 use Rattle.ol_row_turns.specs.declared.owner.Owner.{Owner}
 use Rattle.ol_session_turns.proofs.Ends.{has_holding}
 
@@ -165,7 +165,7 @@ same_anchor v seats now same = ap (λ t. (checkpointed v (unwrap_or (low_in t) v
 
 -- where no other session is in the way and the slot holds a row, room alone may be wanting
 pub found_turn : (opened : ℕ) (v : Installation) (seats : List Seat) (registers : Registers) (m : Machine) (o : Owner) (rid : Rid) (before : Row) (after : Option Row) → Regular m → Shows opened v seats registers m → holder_of (table_of seats) o.session rid true ≡ None → row_in m rid ≡ Some before
-    → row_turn m o rid after ≡ unless m (no_room m) (Changed rid, change_row o.entry rid (Change o.txn rid (Some before) after) m)
+    → row_turn m o rid after ≡ written_turn m o rid (Some before) after (Changed rid)
 found_turn opened v seats registers m o rid before after regular shows alone row =
     let none : holder m o.session true rid ≡ None = sym (holder_is seats registers m o.session true rid regular shows.sessions) ∙ alone in
     ap (λ (h : Option ℕ). unless m ((is_some h, RowLocked (unwrap_or h 0)) ∷ (is_none (row_in m rid), NoRow) ∷ no_room m) (Changed rid, change_row o.entry rid (Change o.txn rid (row_in m rid) after) m)) none
@@ -225,6 +225,10 @@ pub row_yields : (m : Machine) (o : Owner) (rid : Rid) (after : Option Row) → 
 row_yields m o rid after =
     yielding m ((is_some (holder m o.session true rid), RowLocked (unwrap_or (holder m o.session true rid) 0)) ∷ (is_none (row_in m rid), NoRow) ∷ no_room m) (Changed rid, change_row o.entry rid (Change o.txn rid (row_in m rid) after) m) (refl, (refl, (refl, (refl, tt)))) refl
 
+pub written_yields : (m : Machine) (o : Owner) (rid : Rid) (before after : Option Row) (done : Reply) → comes_first done ≡ false → comes_first (written_turn m o rid before after done).0 ≡ false
+written_yields m o rid before after done last =
+    yielding m (no_room m) (done, change_row o.entry rid (Change o.txn rid before after) m) (refl, (refl, tt)) last
+
 -- a fault of a read, where the turn's refusals yield
 pub fault_answer : (m : Machine) (shown : Machine → Type 0) (r : Reply × Machine) (fault : StorageFault) → (fault ≡ Stopped → ⊥) → comes_first r.0 ≡ false → (fault ≡ NoMemory → shown m) → Answers m shown r (Err fault)
 fault_answer m shown r Failed never first memory = first
@@ -260,6 +264,11 @@ pub row_stands : (v : Installation) (a : Anchor) (earlier : ℕ → Record) (m :
 row_stands v a earlier m o rid after d is s =
     unless_all (λ (k : Machine). StandsWithinEither v a earlier k d) m ((is_some (holder m o.session true rid), RowLocked (unwrap_or (holder m o.session true rid) 0)) ∷ (is_none (row_in m rid), NoRow) ∷ no_room m) (Changed rid, change_row o.entry rid (Change o.txn rid (row_in m rid) after) m)
     (inl s) (λ all. either_changed v a earlier o.entry rid (Change o.txn rid (row_in m rid) after) m d (either_more v a earlier m (Change o.txn rid (row_in m rid) after) d is (inl s)))
+
+pub written_stands : (v : Installation) (a : Anchor) (earlier : ℕ → Record) (m : Machine) (o : Owner) (rid : Rid) (before after : Option Row) (done : Reply) (d : Bytes) → IsBehind (behind_of earlier m) → StandsWithinTurn v earlier m d → StandsWithinEither v a earlier (written_turn m o rid before after done).1 d
+written_stands v a earlier m o rid before after done d is s =
+    unless_all (λ (k : Machine). StandsWithinEither v a earlier k d) m (no_room m) (done, change_row o.entry rid (Change o.txn rid before after) m)
+    (inl s) (λ all. either_changed v a earlier o.entry rid (Change o.txn rid before after) m d (either_more v a earlier m (Change o.txn rid before after) d is (inl s)))
 
 -- a page that came into memory, and then a store with room beside it
 pub restored : (v w u : Installation) → w ≡ with_store v w.store → u ≡ with_store w u.store → u ≡ with_store v u.store

@@ -57,6 +57,11 @@ place_within c rid there =
     let within : nat_lt rid.page (data_pages c rid.space) ≡ true = (and_parts (nat_lt rid.space (length c.spaces)) (nat_lt rid.page (data_pages c rid.space)) page).1 in
     grind (arith, nat_tests, within)
 
+pub place_slot : (c : Config) (rid : Rid) → has_place c rid ≡ true → rid.slot ≤ 30
+place_slot c rid there =
+    let within : nat_lt rid.slot 31 ≡ true = (and_parts (has_page c rid.space rid.page) (nat_lt rid.slot 31) there).1 in
+    grind (arith, nat_tests, within)
+
 -- a machine's images and archives behind a change, where what is done is what was asked
 pub changed_shown : (l : List (Option Running)) (b : Captures) (m : Machine) (n : ℕ) (x : Record) (rid : Rid) → length l ≡ 4 → ShowsArchives l b m → ChangesOnly x rid → rid.page < data_pages (config_of m) rid.space
     → ShowsArchives (archives_behind (images_asked l b rid.space rid.page (stamp_in m rid.space rid.page)) n l) (images_behind (images_asked l b rid.space rid.page (stamp_in m rid.space rid.page)) (image_of_now m rid) l b) (change_row n rid x m)

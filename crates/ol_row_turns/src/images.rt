@@ -21,8 +21,9 @@ ghost use Rattle.ol_storage.specs.Storing.{IsStored};
 ghost use Rattle.ol_store.specs.Stores.{CanCapture, image_with, with_before};
 ghost use Rattle.ol_turn_laws.specs.Room.{Regular};
 ghost use Rattle.ol_txn.specs.Seats.{Seat};
-ghost use Rattle.ol_engine.specs.Parts.{HasRisen, HasTurns, MayFollow, MayRise, Registers, Shows, ShowsStorage, anchor_made, behind_of, free_of};
+ghost use Rattle.ol_engine.specs.Parts.{GoesOn, HasRisen, HasTurns, MayFollow, MayRise, Registers, Shows, ShowsStorage, anchor_made, behind_of, free_of};
 ghost use Rattle.ol_engine.specs.Turns.{StandsWithinEither};
+ghost use Rattle.ol_row_turns.specs.Turns.{SameCursors};
 ghost use Rattle.ol_row_turns.specs.Images.{archives_behind, images_asked, images_behind, images_dropped, keeper};
 
 use ol_captures::drop_images_of;
@@ -168,6 +169,8 @@ pub fn change_with_images<D: Disk>(
     ensures shows { (opened n : ℕ) (m : Machine) (registers : Registers) → Shows opened storage.old.now locks.now registers m → Regular m → OnOk result (ShowsStorage storage.new.now (row_changed n rid rec.now m)) }
     ensures turns { (opened : ℕ) (now : List Seat) → HasTurns opened storage.old.now locks.now → MayFollow opened storage.old.now locks.now now → OnOk result (HasTurns opened storage.new.now now) }
     ensures risen { OnOk result (HasRisen 2 storage.old.now storage.new.now) }
+    ensures goes { OnOk result (GoesOn storage.old.now storage.new.now) }
+    ensures cursors { SameCursors archives.old archives.new }
     ensures archives { OnOk result (archives.new ≡ archives_behind images entry archives.old) }
     ensures images { D.tells → (opened : ℕ) (m : Machine) (registers : Registers) (before : ℕ → RecordValue) → Shows opened storage.old.now locks.now registers m → Regular m → IsStored (D.past storage.old.disk) storage.old.now (behind_of before m)
         → OnOk result (storage.new.now.store.before ≡ images_behind images (image_with rid.space rid.page (page_bytes (page_behind m.work.start m.work.records rid.space rid.page))) archives.old storage.old.now.store.before) }

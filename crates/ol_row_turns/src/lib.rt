@@ -2,11 +2,14 @@
 #![tactic(auto)]
 
 mod images;
+mod insertion;
 mod owner;
 mod rollback;
 mod rows;
 mod values;
 
+pub use images::Archives;
+pub use insertion::insert;
 pub use owner::Owner;
 pub use rollback::undo;
 pub use rows::change;

@@ -1,6 +1,6 @@
 //! A change is taken back.
 
-ghost use Rattle.std.specs.Prelude.{◌≡◌, ◌≤◌, ◌<◌, ◌^◌, IfErr, IsErrOf, List, None, OnErr, OnOk, Option, Some, false, true, ℕ};
+ghost use Rattle.std.specs.Prelude.{◌≡◌, ◌≤◌, ◌<◌, ◌^◌, Bool, IfErr, IsErrOf, List, None, OnErr, OnOk, Option, Some, false, true, ℕ};
 ghost use Rattle.ol_values.specs.declared.event.Reply.TheVariants.{Undone as UndoneReply};
 ghost use Rattle.ol_values.specs.declared.record.Record.{Record as RecordValue};
 ghost use Rattle.ol_values.specs.declared.record.Record.TheVariants.{Undo as UndoRecord};
@@ -20,10 +20,11 @@ ghost use Rattle.ol_storage.specs.Storing.{IsStored};
 ghost use Rattle.ol_store.specs.Stores.{CanCapture};
 ghost use Rattle.ol_turn_laws.specs.Room.{Regular};
 ghost use Rattle.ol_txn.specs.Seats.{IsSession, last_of, seat_of as locks_of};
-ghost use Rattle.ol_engine.specs.Parts.{HasRisen, HasTurns, MayRise, Registers, Shows, anchor_made, behind_of, number_in};
+ghost use Rattle.ol_engine.specs.Parts.{GoesOn, HasRisen, HasTurns, MayRise, Registers, Shows, anchor_made, behind_of, number_in};
 ghost use Rattle.ol_engine.specs.Turns.{Answers, StandsWithinEither};
+ghost use Rattle.ol_session_turns.specs.Pending.{ArePending};
 ghost use Rattle.ol_row_turns.specs.Images.{images_asked};
-ghost use Rattle.ol_row_turns.specs.Turns.{IsUndoable, Leaves, undone_turn};
+ghost use Rattle.ol_row_turns.specs.Turns.{IsUndoable, Leaves, SameCursors, undone_turn};
 
 use crate::images::{Archives, Images, ask_images, change_with_images};
 use crate::owner::Owner;
@@ -58,6 +59,9 @@ fn put_back<D: Disk>(
         → Answers m (Shows opened storage.new.now locks.new registers) (UndoneReply rid, row_changed owner.entry rid (UndoRecord owner.txn rid value) m) result }
     ensures turns { (opened : ℕ) → HasTurns opened storage.old.now locks.old → OnOk result (HasTurns opened storage.new.now locks.new) }
     ensures risen { OnOk result (HasRisen 2 storage.old.now storage.new.now) }
+    ensures goes { OnOk result (GoesOn storage.old.now storage.new.now) }
+    ensures cursors { SameCursors archives.old archives.new }
+    ensures places { (test : RidValue → Bool) → ArePending test locks.old → OnOk result (ArePending test locks.new) }
     ensures archives { D.tells → (opened : ℕ) (m : Machine) (registers : Registers) (earlier : ℕ → RecordValue) → Shows opened storage.old.now locks.old registers m → Regular m → IsStored (D.past storage.old.disk) storage.old.now (behind_of earlier m)
         → images ≡ images_asked archives.old storage.old.now.store.before rid.space rid.page (stamp_in m rid.space rid.page) → ShowsArchives archives.old storage.old.now.store.before m
         → OnOk result (ShowsArchives archives.new storage.new.now.store.before (row_changed owner.entry rid (UndoRecord owner.txn rid value) m)) }
@@ -118,6 +122,9 @@ fn undo_last<D: Disk>(
         → Answers m (Shows opened storage.new.now locks.new registers) (UndoneReply rid, row_changed owner.entry rid (UndoRecord owner.txn rid value) m) result }
     ensures turns { (opened : ℕ) → HasTurns opened storage.old.now locks.old → (IsErrOf result StorageFault.Failed → ⊥) → HasTurns opened storage.new.now locks.new }
     ensures risen { OnOk result (HasRisen 2 storage.old.now storage.new.now) }
+    ensures goes { (IsErrOf result StorageFault.Failed → ⊥) → GoesOn storage.old.now storage.new.now }
+    ensures cursors { SameCursors archives.old archives.new }
+    ensures places { (test : RidValue → Bool) → ArePending test locks.old → (IsErrOf result StorageFault.Failed → ⊥) → ArePending test locks.new }
     ensures archives { D.tells → (opened : ℕ) (m : Machine) (registers : Registers) (earlier : ℕ → RecordValue) → Shows opened storage.old.now locks.old registers m → Regular m → IsStored (D.past storage.old.disk) storage.old.now (behind_of earlier m) → ShowsArchives archives.old storage.old.now.store.before m
         → Leaves m (λ n. ShowsArchives archives.new storage.new.now.store.before n) (row_changed owner.entry rid (UndoRecord owner.txn rid value) m) result }
     ensures stops { D.tells → (opened : ℕ) (m : Machine) (registers : Registers) (earlier : ℕ → RecordValue) → Shows opened storage.old.now locks.old registers m → Regular m → IsStored (D.past storage.old.disk) storage.old.now (behind_of earlier m)
@@ -164,6 +171,9 @@ pub fn undo<D: Disk>(
     ensures answer { (opened : ℕ) (m : Machine) (registers : Registers) → Shows opened storage.old.now locks.old registers m → Regular m → Answers m (Shows opened storage.new.now locks.new registers) (undone_turn m entry session) result }
     ensures turns { (opened : ℕ) → HasTurns opened storage.old.now locks.old → (IsErrOf result StorageFault.Failed → ⊥) → HasTurns opened storage.new.now locks.new }
     ensures risen { OnOk result (HasRisen 2 storage.old.now storage.new.now) }
+    ensures goes { (IsErrOf result StorageFault.Failed → ⊥) → GoesOn storage.old.now storage.new.now }
+    ensures cursors { SameCursors archives.old archives.new }
+    ensures places { (test : RidValue → Bool) → ArePending test locks.old → (IsErrOf result StorageFault.Failed → ⊥) → ArePending test locks.new }
     ensures archives { D.tells → (opened : ℕ) (m : Machine) (registers : Registers) (earlier : ℕ → RecordValue) → Shows opened storage.old.now locks.old registers m → Regular m → IsStored (D.past storage.old.disk) storage.old.now (behind_of earlier m) → ShowsArchives archives.old storage.old.now.store.before m
         → Leaves m (λ n. ShowsArchives archives.new storage.new.now.store.before n) (undone_turn m entry session).1 result }
     ensures stops { D.tells → (opened : ℕ) (m : Machine) (registers : Registers) (earlier : ℕ → RecordValue) → Shows opened storage.old.now locks.old registers m → Regular m → IsStored (D.past storage.old.disk) storage.old.now (behind_of earlier m)

@@ -1,15 +1,16 @@
 //! A row changes: it gets another value, or is deleted.
 
-ghost use Rattle.std.specs.Prelude.{◌≡◌, ◌≤◌, ◌<◌, ◌+◌, ◌^◌, ◌⊎◌, IfErr, IfOk, IsErrOf, List, None, OnErr, OnOk, Some, false, true, ℕ};
+ghost use Rattle.std.specs.Prelude.{◌≡◌, ◌≤◌, ◌<◌, ◌+◌, ◌^◌, ◌⊎◌, Bool, IfErr, IfOk, IsErrOf, List, None, OnErr, OnOk, Some, false, true, ℕ};
 ghost use Rattle.ol_values.specs.declared.record.Record.{Record as RecordValue};
 ghost use Rattle.ol_values.specs.declared.record.Record.TheVariants.{Change as ChangeRecord};
-ghost use Rattle.ol_values.specs.declared.event.Reply.TheVariants.{Changed as ChangedReply};
+ghost use Rattle.ol_values.specs.declared.record.Rid.{Rid as RidValue};
 ghost use Rattle.ol_values.specs.Config.{has_place};
-ghost use Rattle.ol_values.specs.Image.{page_bytes};
+ghost use Rattle.ol_values.specs.Spelling.{IsChange};
 ghost use Rattle.ol_rules.specs.Locks.{holder_of};
 ghost use Rattle.ol_rules.specs.Sound.{is_value};
 ghost use Rattle.ol_rules.specs.Start.{page_behind};
-ghost use Rattle.ol_model.specs.Machine.{Machine, row_in, stamp_in};
+ghost use Rattle.ol_model.specs.Machine.{Machine, stamp_in};
+ghost use Rattle.ol_model.specs.Turns.{comes_first};
 ghost use Rattle.ol_model.specs.Steps.{append, change_row as row_changed};
 ghost use Rattle.ol_pool.specs.Frames.{frame_of};
 ghost use Rattle.ol_ports.specs.Stops.{Stops};
@@ -20,11 +21,12 @@ ghost use Rattle.ol_storage.specs.Storing.{IsStored};
 ghost use Rattle.ol_store.specs.Stores.{CanCapture, image_with};
 ghost use Rattle.ol_turn_laws.specs.Room.{Regular};
 ghost use Rattle.ol_txn.specs.Seats.{IsSession, seat_of as locks_of, table_of};
-ghost use Rattle.ol_engine.specs.Parts.{HasRisen, HasTurns, MayRise, Registers, Shows, anchor_made, behind_of, number_in};
+ghost use Rattle.ol_engine.specs.Parts.{GoesOn, HasRisen, HasTurns, MayRise, Registers, Shows, anchor_made, behind_of, number_in};
 ghost use Rattle.ol_engine.specs.Turns.{Answers, HasMore, StandsWithinEither};
 ghost use Rattle.ol_running.specs.Running.{ShowsArchives};
+ghost use Rattle.ol_session_turns.specs.Pending.{ArePending};
 ghost use Rattle.ol_row_turns.specs.Images.{archives_behind, images_asked, images_behind};
-ghost use Rattle.ol_row_turns.specs.Turns.{Leaves, row_turn};
+ghost use Rattle.ol_row_turns.specs.Turns.{Leaves, SameCursors, row_turn, written_turn};
 ghost use Rattle.ol_storage.specs.declared.storage.StorageFault.{StorageFault as StorageFaultValue};
 
 use crate::images::{Archives, Images, ask_images, change_with_images};
@@ -64,6 +66,9 @@ pub fn change<D: Disk>(
         → Answers m (Shows opened storage.new.now locks.new registers) (row_turn m owner rid after) result }
     ensures turns { (IsErrOf result StorageFault.Failed → ⊥) → HasTurns opened storage.new.now locks.new }
     ensures risen { OnOk result (HasRisen 2 storage.old.now storage.new.now) }
+    ensures goes { (IsErrOf result StorageFault.Failed → ⊥) → GoesOn storage.old.now storage.new.now }
+    ensures cursors { SameCursors archives.old archives.new }
+    ensures places { (test : RidValue → Bool) → ArePending test locks.old → test rid ≡ true → (IsErrOf result StorageFault.Failed → ⊥) → ArePending test locks.new }
     ensures archives { D.tells → (m : Machine) (registers : Registers) (earlier : ℕ → RecordValue) → Shows opened storage.old.now locks.old registers m → Regular m → IsStored (D.past storage.old.disk) storage.old.now (behind_of earlier m) → ShowsArchives archives.old storage.old.now.store.before m
         → Leaves m (λ n. ShowsArchives archives.new storage.new.now.store.before n) (row_turn m owner rid after).1 result }
     ensures stops { D.tells → (m : Machine) (registers : Registers) (earlier : ℕ → RecordValue) → Shows opened storage.old.now locks.old registers m → Regular m → IsStored (D.past storage.old.disk) storage.old.now (behind_of earlier m)
@@ -82,44 +87,62 @@ pub fn change<D: Disk>(
         return Ok(Reply::RowLocked { holder });
     }
     match storage.read(rid) {
-        Ok(Some(before)) => change_found(
-            storage, locks, archives, opened, owner, rid, before, after,
+        Ok(Some(before)) => write_row(
+            storage,
+            locks,
+            archives,
+            opened,
+            owner,
+            rid,
+            Some(before),
+            after,
+            Reply::Changed { rid },
         ),
         Ok(None) => Ok(Reply::NoRow),
         Err(fault) => Err(fault),
     }
 }
 
-// Changes a row that was found, for a session that no other is in the way of.
-fn change_found<D: Disk>(
+/// Gives a slot of a page that is in memory another row, or none, where the log and the journal have room for the record: for a session
+/// that no other is in the way of. It answers `done`. The page's image is kept first, where a running archive wants it.
+///
+/// `JournalFull` and `LogsFull` come exactly where the journal or the log has no room for the record and what it owes. `Failed` comes
+/// only where the count of faults of a chunk rose; `NoMemory` changes nothing.
+pub fn write_row<D: Disk>(
     storage: &mut Storage<D>,
     locks: &mut Locks,
     archives: &mut Archives,
     opened: u64,
     owner: Owner,
     rid: Rid,
-    before: Row,
+    before: Option<Row>,
     after: Option<Row>,
+    done: Reply,
 ) -> Result<Reply, StorageFault>
     requires session { IsSession owner.session }
     requires open { number_in (locks_of locks.old owner.session).holding ≡ Some owner.txn }
     requires alone { holder_of (table_of locks.old) owner.session rid true ≡ None }
+    requires change { IsChange before after }
+    requires done { comes_first done ≡ false }
     requires going { storage.old.now.stopped ≡ false }
     requires turns { HasTurns opened storage.old.now locks.old }
     requires rise { MayRise 2 storage.old.now }
     requires place { has_place (config_of storage.old.now) rid ≡ true }
     requires up { is_up storage.old.now.anchor rid.space ≡ true }
     requires frame { (bytes : List ℕ) × (frame_of storage.old.now.store.pool rid.space rid.page ≡ Some bytes) }
-    ensures answer { (m : Machine) (registers : Registers) → Shows opened storage.old.now locks.old registers m → Regular m → row_in m rid ≡ Some before
-        → Answers m (Shows opened storage.new.now locks.new registers) (row_turn m owner rid after) result }
+    ensures answer { (m : Machine) (registers : Registers) → Shows opened storage.old.now locks.old registers m → Regular m
+        → Answers m (Shows opened storage.new.now locks.new registers) (written_turn m owner rid before after done) result }
     ensures turns { (IsErrOf result StorageFault.Failed → ⊥) → HasTurns opened storage.new.now locks.new }
     ensures risen { OnOk result (HasRisen 2 storage.old.now storage.new.now) }
-    ensures archives { D.tells → (m : Machine) (registers : Registers) (earlier : ℕ → RecordValue) → Shows opened storage.old.now locks.old registers m → Regular m → IsStored (D.past storage.old.disk) storage.old.now (behind_of earlier m) → row_in m rid ≡ Some before
-        → ShowsArchives archives.old storage.old.now.store.before m → Leaves m (λ n. ShowsArchives archives.new storage.new.now.store.before n) (row_turn m owner rid after).1 result }
-    ensures stops { D.tells → (m : Machine) (registers : Registers) (earlier : ℕ → RecordValue) → Shows opened storage.old.now locks.old registers m → Regular m → IsStored (D.past storage.old.disk) storage.old.now (behind_of earlier m) → row_in m rid ≡ Some before
-        → Stops (D.past storage.old.disk) (D.past storage.new.disk) (StandsWithinEither storage.old.now (anchor_made storage.old.now locks.old) earlier (row_turn m owner rid after).1) }
-    ensures stored { D.tells → (m : Machine) (registers : Registers) (earlier : ℕ → RecordValue) → Shows opened storage.old.now locks.old registers m → Regular m → IsStored (D.past storage.old.disk) storage.old.now (behind_of earlier m) → row_in m rid ≡ Some before
-        → OnOk result (IsStored (D.past storage.new.disk) storage.new.now (behind_of earlier (row_turn m owner rid after).1)) }
+    ensures goes { (IsErrOf result StorageFault.Failed → ⊥) → GoesOn storage.old.now storage.new.now }
+    ensures cursors { SameCursors archives.old archives.new }
+    ensures places { (test : RidValue → Bool) → ArePending test locks.old → test rid ≡ true → (IsErrOf result StorageFault.Failed → ⊥) → ArePending test locks.new }
+    ensures archives { D.tells → (m : Machine) (registers : Registers) (earlier : ℕ → RecordValue) → Shows opened storage.old.now locks.old registers m → Regular m → IsStored (D.past storage.old.disk) storage.old.now (behind_of earlier m)
+        → ShowsArchives archives.old storage.old.now.store.before m → Leaves m (λ n. ShowsArchives archives.new storage.new.now.store.before n) (written_turn m owner rid before after done).1 result }
+    ensures stops { D.tells → (m : Machine) (registers : Registers) (earlier : ℕ → RecordValue) → Shows opened storage.old.now locks.old registers m → Regular m → IsStored (D.past storage.old.disk) storage.old.now (behind_of earlier m)
+        → Stops (D.past storage.old.disk) (D.past storage.new.disk) (StandsWithinEither storage.old.now (anchor_made storage.old.now locks.old) earlier (written_turn m owner rid before after done).1) }
+    ensures stored { D.tells → (m : Machine) (registers : Registers) (earlier : ℕ → RecordValue) → Shows opened storage.old.now locks.old registers m → Regular m → IsStored (D.past storage.old.disk) storage.old.now (behind_of earlier m)
+        → OnOk result (IsStored (D.past storage.new.disk) storage.new.now (behind_of earlier (written_turn m owner rid before after done).1)) }
     ensures still { D.tells → (m : Machine) (earlier : ℕ → RecordValue) → IsStored (D.past storage.old.disk) storage.old.now (behind_of earlier m) → IsErrOf result StorageFault.NoMemory → IsStored (D.past storage.new.disk) storage.new.now (behind_of earlier m) }
     ensures stopped { IsErrOf result StorageFault.Failed → storage.new.now.stopped ≡ true }
     ensures only { (fault : StorageFaultValue) → IsErrOf result fault → (fault ≡ StorageFault.Failed) ⊎ (fault ≡ StorageFault.NoMemory) }
@@ -136,26 +159,32 @@ fn change_found<D: Disk>(
         Err(fault) => return Err(fault),
     };
     match locks.reserve(owner.session, 2) {
-        Ok(()) => put(storage, locks, archives, owner, rid, before, after, images),
-        Err(_) => Err(StorageFault::NoMemory),
+        Ok(()) => {}
+        Err(_) => return Err(StorageFault::NoMemory),
+    }
+    match put(storage, locks, archives, owner, rid, before, after, images) {
+        Ok(()) => Ok(done),
+        Err(fault) => Err(fault),
     }
 }
 
-// Changes a row that was found, for a session that no other is in the way of, and that has memory for a lock and a change.
-fn put<D: Disk>(
+/// Gives a slot of a page that is in memory another row, or none, for a session that no other is in the way of, and that has memory for a lock
+/// and a change.
+pub fn put<D: Disk>(
     storage: &mut Storage<D>,
     locks: &mut Locks,
     archives: &mut Archives,
     owner: Owner,
     rid: Rid,
-    before: Row,
+    before: Option<Row>,
     after: Option<Row>,
     images: Images,
-) -> Result<Reply, StorageFault>
+) -> Result<(), StorageFault>
     requires session { IsSession owner.session }
     requires open { number_in (locks_of locks.old owner.session).holding ≡ Some owner.txn }
     requires spare { 2 ≤ (locks_of locks.old owner.session).spare }
     requires alone { holder_of (table_of locks.old) owner.session rid true ≡ None }
+    requires change { IsChange before after }
     requires going { storage.old.now.stopped ≡ false }
     requires turns { (opened : ℕ) × HasTurns opened storage.old.now locks.old × HasMore opened storage.old.now locks.old }
     requires rise { MayRise 2 storage.old.now }
@@ -164,22 +193,23 @@ fn put<D: Disk>(
     requires frame { (bytes : List ℕ) × (frame_of storage.old.now.store.pool rid.space rid.page ≡ Some bytes) }
     requires capture { images ≡ Images.Capture → CanCapture storage.old.now.store.before rid.space rid.page }
     requires broken { (at : ℕ) → images ≡ Images.Break at → at < 4 }
-    ensures answer { (opened : ℕ) (m : Machine) (registers : Registers) → Shows opened storage.old.now locks.old registers m → Regular m
-        → Answers m (Shows opened storage.new.now locks.new registers) (ChangedReply rid, row_changed owner.entry rid (ChangeRecord owner.txn rid (Some before) after) m) result }
+    ensures shows { (opened : ℕ) (m : Machine) (registers : Registers) → Shows opened storage.old.now locks.old registers m → Regular m → OnOk result (Shows opened storage.new.now locks.new registers (row_changed owner.entry rid (ChangeRecord owner.txn rid before after) m)) }
     ensures turns { (opened : ℕ) → HasTurns opened storage.old.now locks.old → HasMore opened storage.old.now locks.old → OnOk result (HasTurns opened storage.new.now locks.new) }
     ensures risen { OnOk result (HasRisen 2 storage.old.now storage.new.now) }
+    ensures goes { OnOk result (GoesOn storage.old.now storage.new.now) }
+    ensures cursors { SameCursors archives.old archives.new }
+    ensures places { (test : RidValue → Bool) → ArePending test locks.old → test rid ≡ true → OnOk result (ArePending test locks.new) }
     ensures archives { D.tells → (opened : ℕ) (m : Machine) (registers : Registers) (earlier : ℕ → RecordValue) → Shows opened storage.old.now locks.old registers m → Regular m → IsStored (D.past storage.old.disk) storage.old.now (behind_of earlier m)
         → images ≡ images_asked archives.old storage.old.now.store.before rid.space rid.page (stamp_in m rid.space rid.page) → ShowsArchives archives.old storage.old.now.store.before m
-        → OnOk result (ShowsArchives archives.new storage.new.now.store.before (row_changed owner.entry rid (ChangeRecord owner.txn rid (Some before) after) m)) }
+        → OnOk result (ShowsArchives archives.new storage.new.now.store.before (row_changed owner.entry rid (ChangeRecord owner.txn rid before after) m)) }
     ensures stops { D.tells → (opened : ℕ) (m : Machine) (registers : Registers) (earlier : ℕ → RecordValue) → Shows opened storage.old.now locks.old registers m → Regular m → IsStored (D.past storage.old.disk) storage.old.now (behind_of earlier m)
-        → Stops (D.past storage.old.disk) (D.past storage.new.disk) (StandsWithinEither storage.old.now (anchor_made storage.old.now locks.old) earlier (append (ChangeRecord owner.txn rid (Some before) after) m)) }
+        → Stops (D.past storage.old.disk) (D.past storage.new.disk) (StandsWithinEither storage.old.now (anchor_made storage.old.now locks.old) earlier (append (ChangeRecord owner.txn rid before after) m)) }
     ensures stored { D.tells → (opened : ℕ) (m : Machine) (registers : Registers) (earlier : ℕ → RecordValue) → Shows opened storage.old.now locks.old registers m → Regular m → IsStored (D.past storage.old.disk) storage.old.now (behind_of earlier m)
-        → OnOk result (IsStored (D.past storage.new.disk) storage.new.now (behind_of earlier (append (ChangeRecord owner.txn rid (Some before) after) m))) }
+        → OnOk result (IsStored (D.past storage.new.disk) storage.new.now (behind_of earlier (append (ChangeRecord owner.txn rid before after) m))) }
     ensures stopped { OnErr result (storage.new.now.stopped ≡ true) }
     ensures only { IfErr result (λ fault. fault ≡ StorageFault.Failed) }
     ensures cause { HasStorageCause (config_of storage.old.now) (D.fault_counts storage.old.disk) (D.fault_counts storage.new.disk) result }
 {
-    let before = Some(before);
     // These tell that the sessions are 16, that the log is whole, and that the record fits a page.
     let _whole = (locks.is_open(owner.session), storage.is_stopped());
     let _short = (is_short(&before), is_short(&after));
@@ -205,5 +235,5 @@ fn put<D: Disk>(
     // Neither can be refused: no other session is in the way, and there is memory for both.
     let _owned = locks.try_own(owner.session, rid);
     let _noted = locks.note(owner.session, rid, before);
-    Ok(Reply::Changed { rid })
+    Ok(())
 }

@@ -1,9 +1,8 @@
 -- A transaction begins.
-use Rattle.std.specs.Prelude.{List, None, Option, Some, [], false, is_some, length, true, ℕ, ◌++◌, ◌+◌, ◌-◌, ◌<◌, ◌^◌, ◌∷◌, ◌≡◌, ◌≤◌}
-use Rattle.std.proofs.Common.{ap, arith, inl, inr, length-append, refl, subst, sym, ⊎_elim, ◌∙◌}
+use Rattle.std.specs.Prelude.{List, None, Option, Some, false, is_some, length, true, ℕ, ◌+◌, ◌<◌, ◌≡◌}
+use Rattle.std.proofs.Common.{ap, arith, refl, subst, sym, ⊎_elim, ◌∙◌}
 use Rattle.ol_values.specs.declared.event.Reply.{Reply}
 use Rattle.ol_values.specs.declared.event.Reply.TheVariants.{Begun, TxnOpen}
-use Rattle.ol_values.specs.declared.record.Record.{Record}
 use Rattle.ol_values.specs.declared.record.Record.TheVariants.{Begin}
 use Rattle.ol_rules.specs.Locks.{Holding, owed_by_holding}
 use Rattle.ol_rules.specs.Ring.{logged}
@@ -13,14 +12,12 @@ use Rattle.ol_model.specs.SessionTurns.{begin_at}
 use Rattle.ol_model.specs.Steps.{append}
 use Rattle.ol_turn_laws.specs.Room.{Regular}
 use Rattle.ol_log_state.specs.RingState.{ring_of}
-use Rattle.ol_storage.specs.Behind.{with_record}
 use Rattle.ol_storage.specs.Installation.{Installation, IsGoing, appended}
 use Rattle.ol_storage.specs.Installation.{config_of as config_in, last_of as last_behind}
-use Rattle.ol_txn.specs.Seats.{IsSession, Seat, begun_seat, table_of}
+use Rattle.ol_txn.specs.Seats.{IsSession, Seat, begun_seat}
 use Rattle.ol_txn.specs.Seats.{seat_of as locks_of, with_seat as with_locks}
-use Rattle.ol_txn.specs.Telling.{held}
-use Rattle.ol_engine.specs.Parts.{HasTurns, Registers, Shows, behind_of, number_in, owed_of}
-use Rattle.ol_engine.specs.Turns.{Answers, no_room_of}
+use Rattle.ol_engine.specs.Parts.{HasTurns, Registers, Shows, number_in, owed_of}
+use Rattle.ol_engine.specs.Turns.{no_room_of}
 use Rattle.ol_engine.proofs.Rooms.{finds, room_found, room_refused}
 use Rattle.ol_engine.proofs.Seats.{begin_shows, idle_number}
 use Rattle.ol_engine.proofs.Steps.{append_shows}

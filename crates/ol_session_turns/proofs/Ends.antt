@@ -1,7 +1,6 @@
 -- A transaction ends, by a commit or behind its roll back.
-use Rattle.std.specs.Prelude.{List, None, Option, Some, [], length, ℕ, ◌+◌, ◌-◌, ◌<◌, ◌^◌, ◌≡◌, ◌≤◌}
-use Rattle.std.proofs.Common.{ap, arith, inl, inr, refl, subst, sym, ⊎_elim, ◌∙◌}
-use Rattle.ol_values.specs.declared.event.Reply.{Reply}
+use Rattle.std.specs.Prelude.{List, None, Option, Some, length, ℕ, ◌+◌, ◌<◌, ◌≡◌, ◌≤◌}
+use Rattle.std.proofs.Common.{ap, arith, refl, subst, sym, ⊎_elim, ◌∙◌}
 use Rattle.ol_values.specs.declared.event.Reply.TheVariants.{Committed, NoTxn, RolledBack}
 use Rattle.ol_values.specs.declared.record.Record.{Record}
 use Rattle.ol_values.specs.declared.record.Record.TheVariants.{Commit, Rolled}
@@ -16,13 +15,12 @@ use Rattle.ol_turn_laws.specs.Room.{Regular}
 use Rattle.ol_log_state.specs.RingState.{ring_of}
 use Rattle.ol_storage.specs.Installation.{Installation, appended, flushed}
 use Rattle.ol_storage.specs.Installation.{config_of as config_in, last_of as last_behind}
-use Rattle.ol_txn.specs.Seats.{IsSession, Seat, forgotten_seat, table_of}
+use Rattle.ol_txn.specs.Seats.{IsSession, Seat, forgotten_seat}
 use Rattle.ol_txn.specs.Seats.{seat_of as locks_of, with_seat as with_locks}
-use Rattle.ol_txn.specs.Telling.{held}
 use Rattle.ol_engine.specs.Parts.{HasTurns, Registers, Shows, ShowsSeats, free_of, number_in, owed_of}
 use Rattle.ol_engine.proofs.Seats.{commit_shows, rolled_shows}
 use Rattle.ol_engine.proofs.Steps.{append_shows, flush_shows}
-use Rattle.ol_engine.proofs.Tables.{held_set, held_seat, owed_set}
+use Rattle.ol_engine.proofs.Tables.{held_set, owed_set}
 use Rattle.ol_engine.proofs.Turns.{append_turns}
 use Rattle.ol_session_turns.specs.Turns.{commit_turn, rolled_turn}
 

@@ -10,8 +10,9 @@ ghost use Rattle.ol_storage.specs.Installation.{config_of};
 ghost use Rattle.ol_storage.specs.Storing.{IsStored};
 ghost use Rattle.ol_turn_laws.specs.Room.{Regular};
 ghost use Rattle.ol_txn.specs.Seats.{IsSession, seat_of as locks_of};
-ghost use Rattle.ol_engine.specs.Parts.{HasRisen, HasTurns, MayRise, Registers, Shows, behind_of, number_in};
+ghost use Rattle.ol_engine.specs.Parts.{GoesOn, HasRisen, HasTurns, MayRise, Registers, Shows, behind_of, number_in};
 ghost use Rattle.ol_engine.specs.Turns.{Answers, StandsWithinTurn, no_room_of};
+ghost use Rattle.ol_session_turns.specs.Pending.{HoldsNoMore};
 ghost use Rattle.ol_session_turns.specs.Turns.{begin_turn, commit_turn, rolled_turn};
 
 use ol_engine::no_room;
@@ -39,6 +40,8 @@ pub fn begin<D: Disk>(
     ensures turns { OnOk result (HasTurns opened storage.new.now locks.new) }
     ensures risen { OnOk result (HasRisen 1 storage.old.now storage.new.now) }
     ensures images { OnOk result (storage.new.now.store.before ≡ storage.old.now.store.before) }
+    ensures goes { OnOk result (GoesOn storage.old.now storage.new.now) }
+    ensures places { OnOk result (HoldsNoMore locks.old locks.new) }
     ensures stops { D.tells → (m : Machine) (registers : Registers) (before : ℕ → RecordValue) → Shows opened storage.old.now locks.old registers m → Regular m → IsStored (D.past storage.old.disk) storage.old.now (behind_of before m)
         → Stops (D.past storage.old.disk) (D.past storage.new.disk) (StandsWithinTurn storage.old.now before (begin_turn m session).1) }
     ensures stored { D.tells → (m : Machine) (registers : Registers) (before : ℕ → RecordValue) → Shows opened storage.old.now locks.old registers m → Regular m → IsStored (D.past storage.old.disk) storage.old.now (behind_of before m)
@@ -75,6 +78,8 @@ fn begin_next<D: Disk>(
     ensures turns { OnOk result (HasTurns opened storage.new.now locks.new) }
     ensures risen { OnOk result (HasRisen 1 storage.old.now storage.new.now) }
     ensures images { OnOk result (storage.new.now.store.before ≡ storage.old.now.store.before) }
+    ensures goes { OnOk result (GoesOn storage.old.now storage.new.now) }
+    ensures places { OnOk result (HoldsNoMore locks.old locks.new) }
     ensures stops { D.tells → (m : Machine) (registers : Registers) (before : ℕ → RecordValue) → Shows opened storage.old.now locks.old registers m → Regular m → IsStored (D.past storage.old.disk) storage.old.now (behind_of before m)
         → Stops (D.past storage.old.disk) (D.past storage.new.disk) (StandsWithinTurn storage.old.now before (begin_turn m session).1) }
     ensures stored { D.tells → (m : Machine) (registers : Registers) (before : ℕ → RecordValue) → Shows opened storage.old.now locks.old registers m → Regular m → IsStored (D.past storage.old.disk) storage.old.now (behind_of before m)
@@ -113,6 +118,8 @@ pub fn commit<D: Disk>(
     ensures turns { (opened : ℕ) → HasTurns opened storage.old.now locks.old → OnOk result (HasTurns opened storage.new.now locks.new) }
     ensures risen { OnOk result (HasRisen 2 storage.old.now storage.new.now) }
     ensures images { OnOk result (storage.new.now.store.before ≡ storage.old.now.store.before) }
+    ensures goes { OnOk result (GoesOn storage.old.now storage.new.now) }
+    ensures places { OnOk result (HoldsNoMore locks.old locks.new) }
     ensures stops { D.tells → (opened : ℕ) (m : Machine) (registers : Registers) (before : ℕ → RecordValue) → Shows opened storage.old.now locks.old registers m → Regular m → IsStored (D.past storage.old.disk) storage.old.now (behind_of before m)
         → Stops (D.past storage.old.disk) (D.past storage.new.disk) (StandsWithinTurn storage.old.now before (commit_turn m session).1) }
     ensures stored { D.tells → (opened : ℕ) (m : Machine) (registers : Registers) (before : ℕ → RecordValue) → Shows opened storage.old.now locks.old registers m → Regular m → IsStored (D.past storage.old.disk) storage.old.now (behind_of before m)
@@ -145,6 +152,8 @@ fn commit_open<D: Disk>(
     ensures turns { (opened : ℕ) → HasTurns opened storage.old.now locks.old → OnOk result (HasTurns opened storage.new.now locks.new) }
     ensures risen { OnOk result (HasRisen 2 storage.old.now storage.new.now) }
     ensures images { OnOk result (storage.new.now.store.before ≡ storage.old.now.store.before) }
+    ensures goes { OnOk result (GoesOn storage.old.now storage.new.now) }
+    ensures places { OnOk result (HoldsNoMore locks.old locks.new) }
     ensures stops { D.tells → (opened : ℕ) (m : Machine) (registers : Registers) (before : ℕ → RecordValue) → Shows opened storage.old.now locks.old registers m → Regular m → IsStored (D.past storage.old.disk) storage.old.now (behind_of before m)
         → Stops (D.past storage.old.disk) (D.past storage.new.disk) (StandsWithinTurn storage.old.now before (commit_turn m session).1) }
     ensures stored { D.tells → (opened : ℕ) (m : Machine) (registers : Registers) (before : ℕ → RecordValue) → Shows opened storage.old.now locks.old registers m → Regular m → IsStored (D.past storage.old.disk) storage.old.now (behind_of before m)
@@ -186,6 +195,8 @@ pub fn rolled<D: Disk>(
     ensures turns { (opened : ℕ) → HasTurns opened storage.old.now locks.old → OnOk result (HasTurns opened storage.new.now locks.new) }
     ensures risen { OnOk result (HasRisen 1 storage.old.now storage.new.now) }
     ensures images { OnOk result (storage.new.now.store.before ≡ storage.old.now.store.before) }
+    ensures goes { OnOk result (GoesOn storage.old.now storage.new.now) }
+    ensures places { OnOk result (HoldsNoMore locks.old locks.new) }
     ensures stops { D.tells → (opened : ℕ) (m : Machine) (registers : Registers) (before : ℕ → RecordValue) → Shows opened storage.old.now locks.old registers m → Regular m → IsStored (D.past storage.old.disk) storage.old.now (behind_of before m)
         → Stops (D.past storage.old.disk) (D.past storage.new.disk) (StandsWithinTurn storage.old.now before (rolled_turn m session).1) }
     ensures stored { D.tells → (opened : ℕ) (m : Machine) (registers : Registers) (before : ℕ → RecordValue) → Shows opened storage.old.now locks.old registers m → Regular m → IsStored (D.past storage.old.disk) storage.old.now (behind_of before m)
@@ -218,6 +229,8 @@ fn end_rolled<D: Disk>(
     ensures turns { (opened : ℕ) → HasTurns opened storage.old.now locks.old → OnOk result (HasTurns opened storage.new.now locks.new) }
     ensures risen { OnOk result (HasRisen 1 storage.old.now storage.new.now) }
     ensures images { OnOk result (storage.new.now.store.before ≡ storage.old.now.store.before) }
+    ensures goes { OnOk result (GoesOn storage.old.now storage.new.now) }
+    ensures places { OnOk result (HoldsNoMore locks.old locks.new) }
     ensures stops { D.tells → (opened : ℕ) (m : Machine) (registers : Registers) (before : ℕ → RecordValue) → Shows opened storage.old.now locks.old registers m → Regular m → IsStored (D.past storage.old.disk) storage.old.now (behind_of before m)
         → Stops (D.past storage.old.disk) (D.past storage.new.disk) (StandsWithinTurn storage.old.now before (rolled_turn m session).1) }
     ensures stored { D.tells → (opened : ℕ) (m : Machine) (registers : Registers) (before : ℕ → RecordValue) → Shows opened storage.old.now locks.old registers m → Regular m → IsStored (D.past storage.old.disk) storage.old.now (behind_of before m)

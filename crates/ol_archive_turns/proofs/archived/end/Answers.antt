@@ -11,6 +11,7 @@ use Rattle.ol_archive_turns.specs.Ending.{anchor_ended}
 use Rattle.ol_archive_turns.specs.Turns.{end_turn}
 use Rattle.ol_archive_turns.proofs.Ends.{broken_shows, either_rest}
 use Rattle.ol_archive_turns.proofs.Shown.{away_tells, store_turns}
+use Rattle.ol_engine.proofs.Going.{goes_same, goes_store}
 use Rattle.ol_archive_turns.proofs.archived.end.Goals as goal
 
 pub returns-in-Some-broken-clause-answer : goal.returns-in-Some-broken-clause-answer
@@ -35,3 +36,9 @@ returns-in-Some-broken-clause-stops g c tells m before is =
 pub returns-in-None-clause-stops : goal.returns-in-None-clause-stops
 returns-in-None-clause-stops g c tells m before is =
     stops_none _ _ (λ d rest. either_rest c.args.storage.now.now _ before m d is.next (inl (c.is_stopped-stands.ensures.stands tells (behind_of before m) is d rest)))
+
+pub returns-in-Some-broken-clause-goes : goal.returns-in-Some-broken-clause-goes
+returns-in-Some-broken-clause-goes g c = goes_store c.args.storage.now.now c.put_away.new.storage.now _ c.requires.going c.put_away.ensures.step
+
+pub returns-in-None-clause-goes : goal.returns-in-None-clause-goes
+returns-in-None-clause-goes g c = goes_same c.args.storage.now.now c.requires.going

@@ -7,8 +7,9 @@ use Rattle.ol_running.specs.declared.running.Running.{Running}
 use Rattle.ol_engine.specs.Parts.{behind_of}
 use Rattle.ol_engine.specs.Turns.{StandsWithinEither}
 use Rattle.ol_archive_turns.specs.Ending.{anchor_ended, known_at}
-use Rattle.ol_archive_turns.proofs.Ends.{either_rest, end_tells, known_turns}
+use Rattle.ol_archive_turns.proofs.Ends.{either_rest, end_tells, known_goes, known_turns}
 use Rattle.ol_archive_turns.proofs.Shown.{store_turns}
+use Rattle.ol_engine.proofs.Going.{goes_both, goes_same, goes_store}
 use Rattle.ol_archive_turns.proofs.archived.end_whole.Goals as goal
 
 pub returns-then-running-gt0-clause-stops : goal.returns-then-running-gt0-clause-stops
@@ -38,3 +39,13 @@ returns-in-Err-clause-stops g c tells m before is =
     let r = c.args.running in
     subst (λ (o : Option Running). Stops (g.D.Disk.past c.args.storage.now.disk) (g.D.Disk.past c.make_known.new.storage.disk) (StandsWithinEither v (anchor_ended v o) before m)) (sym c.requires.held)
     (stops_weaker _ _ _ _ (λ d s. either_rest v (known_at v r.cursor r.cursor.level).anchor before m d is.next s) (c.make_known.ensures.stops tells (behind_of before m) is))
+
+pub returns-then-running-gt0-clause-goes : goal.returns-then-running-gt0-clause-goes
+returns-then-running-gt0-clause-goes g c = goes_same c.args.storage.now.now c.requires.going
+
+pub returns-in-Ok-clause-goes : goal.returns-in-Ok-clause-goes
+returns-in-Ok-clause-goes g c =
+    let v = c.args.storage.now.now in
+    let w = c.make_known.new.storage.now in
+    let known = known_goes v w c.args.running.cursor c.args.running.cursor.level c.requires.going c.in-Ok.ensures.step in
+    goes_both v w c.put_away.new.storage.now known (goes_store w c.put_away.new.storage.now _ known.going c.put_away.ensures.step)

@@ -10,6 +10,7 @@ use Rattle.ol_ports.proofs.StopLaws.{stops_both, stops_weaker}
 use Rattle.ol_store.specs.Stores.{image_with}
 use Rattle.ol_storage.proofs.Agreeing.{upto_all}
 use Rattle.ol_storage.specs.Behind.{Behind}
+use Rattle.ol_storage.specs.Installation.{Installation}
 use Rattle.ol_storage.specs.Storing.{IsStored}
 use Rattle.ol_engine.specs.Parts.{anchor_made, behind_of, ready_for}
 use Rattle.ol_engine.proofs.Changes.{change_shows}
@@ -66,3 +67,12 @@ returns-in-Err-change-clause-stops g c tells opened m registers before shows reg
     stops_both _ (g.D.Disk.past c.make_entry.new.storage.disk) _ _
     (stops_weaker _ _ _ _ (λ d s. either_more v (anchor_made v c.args.locks.now) before m c.args.rec.now d is.behind s) (c.make_entry.ensures.stops tells opened m registers before shows regular is))
     (stops_weaker _ _ _ _ (λ d s. either_record v c.make_entry.new.storage.now c.args.locks.now before m c.args.rec.now d is.behind c.in-Ok.ensures.beside c.in-Ok.ensures.anchor shows.storage.next s) (c.change.ensures.stops tells (behind_of before m) held))
+
+pub returns-in-Ok-change-clause-goes : goal.returns-in-Ok-change-clause-goes
+returns-in-Ok-change-clause-goes g c =
+    let step = c.in-Ok-change.ensures.step in
+    record {
+      going = ap (λ (x : Installation). x.stopped) step ∙ c.in-Ok.ensures.going;
+      config = ap (λ (x : Installation). x.ring.config) step ∙ c.in-Ok.ensures.beside.config;
+      states = ap (λ (x : Installation). x.anchor.states) step ∙ c.in-Ok.ensures.beside.states;
+    }

@@ -85,3 +85,12 @@ returns-clause-stored g c tells opened m registers before shows regular is =
     let all : upto b.start b.records b.reached ≡ b.records = upto_all b.start b.records b.reached (omega arith) in
     let low : c.unwrap_or-need.result ≡ low_behind b.start (upto b.start b.records b.reached) = need ∙ need_is opened v c.args.locks.now registers m shows regular.orderly.ascending ∙ ap (λ l. low_behind b.start l) (sym all) in
     c.checkpoint.ensures.stored tells b is low
+
+pub returns-clause-goes : goal.returns-clause-goes
+returns-clause-goes g c =
+    let v = c.args.storage.now.now in
+    ok_from c.checkpoint.result c.checkpoint.ensures.step c.checkpoint.ensures.step (λ step again. record {
+      going = ap (λ (x : Installation). x.stopped) step ∙ c.requires.going;
+      config = ap (λ (x : Installation). x.ring.config) step;
+      states = ap (λ (x : Installation). x.anchor.states) step;
+    })

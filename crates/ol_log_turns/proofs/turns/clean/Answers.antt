@@ -1,6 +1,6 @@
-use Rattle.std.specs.Prelude.{List, Option, Some, ℕ, ◌-◌, ◌≡◌}
+use Rattle.std.specs.Prelude.{Option, ℕ, ◌-◌, ◌≡◌}
 use Rattle.std.proofs.Common.{ap, arith, refl, subst, sym, ◌∙◌}
-use Rattle.ol_model.specs.Machine.{Machine, last_of}
+use Rattle.ol_model.specs.Machine.{last_of}
 use Rattle.ol_log_state.specs.RingState.{ring_of}
 use Rattle.ol_ports.specs.Stops.{Stops}
 use Rattle.ol_storage.specs.Installation.{Installation, cleaned, cleaned_ring, config_of, flushed, flushed_of}
@@ -18,6 +18,11 @@ returns-in-Ok-Some-clause-turns g c opened seats turns =
     let ring = c.in-Ok-Some.ensures.ring ∙ ap (λ (p : Option (ℕ × ℕ)). cleaned_ring v p) c.in-Ok-Some.field-0-is in
     turns_beside opened u w seats (ap (λ (x : Installation). x.ring) step) (ap (λ (x : Installation). x.anchor) step) (ap (λ (x : Installation). x.reached) step)
     (flush_turns opened v u seats refl (ap (λ (x : Installation). ring_of x.ring.state) (sym step) ∙ ring) turns)
+
+pub returns-in-Ok-Some-clause-goes : goal.returns-in-Ok-Some-clause-goes
+returns-in-Ok-Some-clause-goes g c =
+    let step = c.in-Ok-Some.ensures.step ∙ ap (λ (p : Option (ℕ × ℕ)). cleaned c.args.storage.now.now c.clean_one.new.self.now.ring.gates p) c.in-Ok-Some.field-0-is in
+    record { going = ap (λ (v : Installation). v.stopped) step ∙ c.requires.going; config = ap (λ (v : Installation). v.ring.config) step; states = ap (λ (v : Installation). v.anchor.states) step }
 
 pub returns-in-Ok-Some-clause-stops : goal.returns-in-Ok-Some-clause-stops
 returns-in-Ok-Some-clause-stops g c tells m before is =

@@ -1,4 +1,4 @@
-use Rattle.std.specs.Prelude.{List, false, true, ℕ, ◌-◌, ◌<◌, ◌≡◌, ◌≤◌}
+use Rattle.std.specs.Prelude.{true, ◌-◌, ◌<◌, ◌≡◌, ◌≤◌}
 use Rattle.std.proofs.Common.{ap, arith, refl, rules, subst, sym, ◌∙◌}
 use Rattle.ol_values.specs.declared.event.Reply.{Reply}
 use Rattle.ol_values.specs.declared.event.Reply.TheVariants.{LogsFull, Switched}
@@ -8,13 +8,13 @@ use Rattle.ol_log_state.specs.RingState.{ring_of}
 use Rattle.ol_loglog.specs.RingValue.{RingValue}
 use Rattle.ol_ports.proofs.StopLaws.{stops_none}
 use Rattle.ol_ports.specs.Stops.{Stops}
-use Rattle.ol_storage.specs.Installation.{config_of, flushed_of}
+use Rattle.ol_storage.specs.Installation.{Installation, config_of, flushed_of}
 use Rattle.ol_storage.specs.Standing.{StandsFrom}
 use Rattle.ol_engine.specs.Parts.{Shows, behind_of, owed_of}
 use Rattle.ol_engine.proofs.Results.{when_false}
 use Rattle.ol_engine.proofs.Stops.{rest_stops}
 use Rattle.ol_log_turns.specs.Closing.{may_close}
-use Rattle.ol_log_turns.proofs.Switches.{switch_is, switch_refused, switch_rises, switch_shown, switch_turns, switched_machine}
+use Rattle.ol_log_turns.proofs.Switches.{switch_is, switch_refused, switch_rises, switch_shown, switch_turns}
 use Rattle.ol_log_turns.proofs.turns.switch.Goals as goal
 
 pub returns-then-not-may_close-clause-stops : goal.returns-then-not-may_close-clause-stops
@@ -58,6 +58,10 @@ returns-in-Ok-clause-turns g c opened turns =
 
 pub returns-in-Ok-clause-risen : goal.returns-in-Ok-clause-risen
 returns-in-Ok-clause-risen g c = switch_rises c.args.storage.now.now c.switch.new.self.now c.in-Ok.ensures.step
+
+pub returns-in-Ok-clause-goes : goal.returns-in-Ok-clause-goes
+returns-in-Ok-clause-goes g c =
+    record { going = ap (λ (v : Installation). v.stopped) c.in-Ok.ensures.step ∙ c.requires.going; config = ap (λ (v : Installation). v.ring.config) c.in-Ok.ensures.step; states = ap (λ (v : Installation). v.anchor.states) c.in-Ok.ensures.step }
 
 pub returns-in-Ok-clause-stops : goal.returns-in-Ok-clause-stops
 returns-in-Ok-clause-stops g c tells m before is =

@@ -16,6 +16,7 @@ use Rattle.ol_engine.proofs.Steps.{loaded_shows}
 use Rattle.ol_engine.proofs.Turns.{turns_beside}
 use Rattle.ol_row_turns.specs.Images.{images_behind}
 use Rattle.ol_row_turns.specs.declared.images.Images.{Images}
+use Rattle.ol_engine.proofs.Going.{goes_both, goes_store}
 use Rattle.ol_row_turns.proofs.images.change_with_images.Goals as goal
 
 -- another store in the place of an installation's
@@ -46,3 +47,9 @@ returns-in-Capture-clause-images g c tells opened m registers before shows regul
     let image = image_with c.args.rid.space c.args.rid.page (page_bytes (page_behind m.work.start m.work.records c.args.rid.space c.args.rid.page)) in
     subst (λ (i : Images). c.change_row.new.storage.now.store.before ≡ images_behind i image c.args.archives.now v.store.before) (sym c.in-Capture.is)
     (c.in-Ok.ensures.captured tells opened m registers before shows regular is (c.eq.ensures ∙ rw c.in-Capture.is refl))
+
+pub returns-in-Break-clause-goes : goal.returns-in-Break-clause-goes
+returns-in-Break-clause-goes g c =
+    let v = c.change_row.new.storage.now in
+    let w = c.break_archive.new.storage.now in
+    goes_both c.args.storage.now.now v w c.in-Ok.ensures.goes (goes_store v w _ c.in-Ok.ensures.goes.going c.break_archive.ensures.step)

@@ -26,6 +26,8 @@ use Rattle.ol_row_turns.specs.declared.images.Images.{Images}
 use Rattle.ol_row_turns.specs.Images.{archives_behind, images_behind}
 use Rattle.ol_row_turns.proofs.Keeping.{changed_shown, place_within}
 use Rattle.ol_row_turns.proofs.TakenBack.{back_follows, back_shown}
+use Rattle.ol_row_turns.proofs.Rests.{undone_pending}
+use Rattle.ol_session_turns.specs.Pending.{ArePending}
 use Rattle.ol_row_turns.proofs.rollback.put_back.Goals as goal
 
 pub change_with_images-requires-clause-free : goal.change_with_images-requires-clause-free
@@ -84,3 +86,6 @@ pub returns-clause-stored : goal.returns-clause-stored
 returns-clause-stored g c tells opened m registers earlier shows regular is =
     let rec : Undo c.args.owner.txn c.args.rid c.copy_of.result ≡ Undo c.args.owner.txn c.args.rid c.args.value = ap (λ b. Undo c.args.owner.txn c.args.rid b) c.copy_of.ensures in
     subst (λ (r : Record). IsStored (g.D.Disk.past c.change_with_images.new.storage.disk) c.change_with_images.new.storage.now (behind_of earlier (append r m))) rec (c.in-Ok.ensures.stored tells opened m registers earlier shows regular is)
+
+pub returns-clause-places : goal.returns-clause-places
+returns-clause-places g c test are = subst (λ (l : List Seat). ArePending test l) (sym c.undone.ensures) (undone_pending test c.args.locks.now c.args.owner.session c.requires.session c.is_open.ensures.sessions are)

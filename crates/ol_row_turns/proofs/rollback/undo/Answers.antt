@@ -14,6 +14,7 @@ use Rattle.ol_engine.specs.Turns.{Answers, StandsWithinEither}
 use Rattle.ol_engine.proofs.Stops.{behind_changed, either_changed, rest_stops}
 use Rattle.ol_row_turns.specs.Turns.{Leaves, undone_turn}
 use Rattle.ol_row_turns.proofs.TakenBack.{back_turn, idle_turn, spent_turn}
+use Rattle.ol_engine.proofs.Going.{goes_same}
 use Rattle.ol_row_turns.proofs.rollback.undo.Goals as goal
 
 -- ---- no open transaction
@@ -77,3 +78,11 @@ returns-clause-stored g c tells opened m registers earlier shows regular stored 
     let is = back_turn c.args.locks.now registers m c.args.session c.args.entry c.in-Some.txn p c.requires.session regular shows.sessions (sym c.txn.ensures ∙ c.in-Some.is) (sym c.last.ensures ∙ c.in-Some-last.is) in
     subst (λ (r : Reply × Machine). OnOk c.undo_last.result (IsStored (g.D.Disk.past c.undo_last.new.storage.disk) c.undo_last.new.storage.now (behind_of earlier r.1))) (sym is)
     (subst (λ (b : Behind). OnOk c.undo_last.result (IsStored (g.D.Disk.past c.undo_last.new.storage.disk) c.undo_last.new.storage.now b)) (sym (behind_changed earlier c.args.entry p.0 (Undo c.in-Some.txn p.0 p.1) m)) (c.undo_last.ensures.stored tells opened m registers earlier shows regular stored))
+
+-- ---- what is left as it was
+
+pub returns-in-None-clause-goes : goal.returns-in-None-clause-goes
+returns-in-None-clause-goes g c ok = goes_same c.args.storage.now.now c.requires.going
+
+pub returns-in-None-last-clause-goes : goal.returns-in-None-last-clause-goes
+returns-in-None-last-clause-goes g c ok = goes_same c.args.storage.now.now c.requires.going

@@ -20,6 +20,8 @@ use Rattle.ol_engine.proofs.Stops.{rest_stops}
 use Rattle.ol_row_turns.specs.Images.{images_asked}
 use Rattle.ol_row_turns.proofs.Changes.{leaves_ok, leaves_same, loaded_shown, loaded_turns, record_stands, restored, unless_failed}
 use Rattle.ol_row_turns.proofs.Keeping.{room_asks, room_shown}
+use Rattle.ol_engine.specs.Parts.{GoesOn}
+use Rattle.ol_engine.proofs.Going.{goes_beside, goes_both, goes_same}
 use Rattle.ol_row_turns.proofs.rollback.undo_last.Goals as goal
 
 -- ---- the page was not read
@@ -119,3 +121,25 @@ returns-in-Err-ask_images-clause-stops g c tells opened m registers earlier show
     let r = Undo c.args.owner.txn c.args.rid c.args.value in
     subst (λ (p : Past). Stops (g.D.Disk.past c.args.storage.now.disk) p (StandsWithinEither v (anchor_made v c.args.locks.now) earlier (append r m))) (sym (c.in-Err-ask_images.ensures.past tells ∙ c.in-Ok.ensures.past tells))
     (stops_none _ _ (λ d rest. record_stands v (anchor_made v c.args.locks.now) earlier m r d stored.behind (rest_stops v earlier m d shows.storage.next (c.is_stopped-stands.ensures.stands tells (behind_of earlier m) stored d rest))))
+
+-- ---- what is left as it was
+
+pub returns-in-Ok-ask_images-clause-goes : goal.returns-in-Ok-ask_images-clause-goes
+returns-in-Ok-ask_images-clause-goes g c ok =
+    let v = c.args.storage.now.now in
+    let u = c.ask_images.new.storage.now in
+    goes_both v u c.put_back.new.storage.now (goes_beside v u c.requires.going (restored v c.read.new.self.now u c.in-Ok.ensures.step (c.in-Ok-ask_images.ensures.step (λ failed. cc)))) (unless_failed c.put_back.result c.put_back.ensures.only c.put_back.ensures.goes ok)
+
+pub returns-in-Err-clause-goes : goal.returns-in-Err-clause-goes
+returns-in-Err-clause-goes g c ok =
+    let same = c.in-Err.ensures.unchanged (λ failed. let fault : c.in-Err.fault ≡ Failed = cc in ok (ap (λ f. Err f) fault)) in
+    subst (λ (x : Installation). GoesOn c.args.storage.now.now x) (sym same) (goes_same c.args.storage.now.now c.requires.going)
+
+pub returns-in-Err-ask_images-clause-goes : goal.returns-in-Err-ask_images-clause-goes
+returns-in-Err-ask_images-clause-goes g c ok =
+    let v = c.args.storage.now.now in
+    let u = c.ask_images.new.storage.now in
+    goes_beside v u c.requires.going (restored v c.read.new.self.now u c.in-Ok.ensures.step (c.in-Err-ask_images.ensures.step (λ failed. let fault : c.in-Err-ask_images.fault ≡ Failed = cc in ok (ap (λ f. Err f) fault))))
+
+pub returns-in-Ok-ask_images-clause-places : goal.returns-in-Ok-ask_images-clause-places
+returns-in-Ok-ask_images-clause-places g c test are ok = unless_failed c.put_back.result c.put_back.ensures.only (c.put_back.ensures.places test are) ok

@@ -1,4 +1,4 @@
-use Rattle.std.specs.Prelude.{List, None, Option, Some, true, ℕ, ◌+◌, ◌<◌, ◌^◌, ◌≡◌, ◌≤◌}
+use Rattle.std.specs.Prelude.{IsSome, List, None, Option, Some, true, ℕ, ◌+◌, ◌<◌, ◌^◌, ◌≡◌, ◌≤◌}
 use Rattle.std.proofs.Common.{ap, arith, refl, subst, sym, ◌∙◌}
 use Rattle.ol_values.specs.declared.record.Record.{Record}
 use Rattle.ol_values.specs.declared.record.Record.TheVariants.{Change}
@@ -15,6 +15,8 @@ use Rattle.ol_engine.specs.Turns.{StandsWithinEither}
 use Rattle.ol_row_turns.proofs.Changes.{both_noted, change_follows, change_shown, lock_owes, owned_is}
 use Rattle.ol_values.specs.Config.{Config, has_place}
 use Rattle.ol_values.specs.Image.{page_bytes}
+use Rattle.ol_values.specs.Spelling.{IsChange}
+use Rattle.ol_storage.specs.Installation.{config_of as config_in}
 use Rattle.ol_rules.specs.Start.{page_behind, upto}
 use Rattle.ol_before.specs.Images.{Captures, Image}
 use Rattle.ol_store.specs.Stores.{image_with}
@@ -24,13 +26,28 @@ use Rattle.ol_running.specs.Running.{ShowsArchives}
 use Rattle.ol_running.proofs.ChangeLaws.{image_of_now}
 use Rattle.ol_row_turns.specs.declared.images.Images.{Images}
 use Rattle.ol_row_turns.specs.Images.{archives_behind, images_behind}
-use Rattle.ol_row_turns.proofs.Keeping.{changed_shown, place_within}
+use Rattle.ol_row_turns.proofs.Keeping.{changed_shown, place_slot, place_within}
+use Rattle.ol_row_turns.proofs.Rests.{noted_pending}
+use Rattle.ol_rules.specs.Locks.{Holding}
+use Rattle.ol_session_turns.proofs.Ends.{has_holding}
+use Rattle.ol_session_turns.specs.Pending.{ArePending}
 use Rattle.ol_row_turns.proofs.rows.put.Goals as goal
+
+pub change_with_images-requires-clause-rules : goal.change_with_images-requires-clause-rules
+change_with_images-requires-clause-rules g c = (
+  place_slot (config_in c.args.storage.now.now) c.args.rid c.requires.place,
+  subst (λ (b : Option Row). IsChange b c.copy_of-2.result) (sym c.copy_of.ensures) (subst (λ (a : Option Row). IsChange c.args.before a) (sym c.copy_of-2.ensures) c.requires.change),
+)
+
+pub try_own-owned-requires-clause-txn : goal.try_own-owned-requires-clause-txn
+try_own-owned-requires-clause-txn g c =
+    let has = has_holding _ c.args.owner.txn c.requires.open in
+    subst (λ (o : Option Holding). IsSome o) (sym has.is) refl
 
 pub returns-in-Err-clause-stops : goal.returns-in-Err-clause-stops
 returns-in-Err-clause-stops g c tells opened m registers earlier shows regular is =
     let v = c.args.storage.now.now in
-    let rec : Change c.args.owner.txn c.args.rid c.copy_of.result c.copy_of-2.result ≡ Change c.args.owner.txn c.args.rid (Some c.args.before) c.args.after = ap (λ b. Change c.args.owner.txn c.args.rid b c.copy_of-2.result) c.copy_of.ensures ∙ ap (λ a. Change c.args.owner.txn c.args.rid (Some c.args.before) a) c.copy_of-2.ensures in
+    let rec : Change c.args.owner.txn c.args.rid c.copy_of.result c.copy_of-2.result ≡ Change c.args.owner.txn c.args.rid c.args.before c.args.after = ap (λ b. Change c.args.owner.txn c.args.rid b c.copy_of-2.result) c.copy_of.ensures ∙ ap (λ a. Change c.args.owner.txn c.args.rid c.args.before a) c.copy_of-2.ensures in
     subst (λ (r : Record). Stops (g.D.Disk.past c.args.storage.now.disk) (g.D.Disk.past c.change_with_images.new.storage.disk) (StandsWithinEither v (anchor_made v c.args.locks.now) earlier (append r m))) rec (c.change_with_images.ensures.stops tells opened m registers earlier shows regular is)
 
 pub note-noted-requires-clause-owed : goal.note-noted-requires-clause-owed
@@ -39,41 +56,39 @@ note-noted-requires-clause-owed g c =
     let owed : owed_of c.try_own-owned.new.self ≡ owed_of c.args.locks.now = ap (λ (l : List Seat). owed_of l) one ∙ lock_owes c.args.locks.now c.args.owner.session c.args.rid c.is_open.ensures.sessions c.requires.session in
     omega (arith, owed, c.requires.turns.2.positions)
 
-pub returns-clause-answer : goal.returns-clause-answer
-returns-clause-answer g c opened m registers shows regular =
+pub returns-clause-shows : goal.returns-clause-shows
+returns-clause-shows g c opened m registers shows regular =
     let v = c.args.storage.now.now in
-    let rec : Change c.args.owner.txn c.args.rid c.copy_of.result c.copy_of-2.result ≡ Change c.args.owner.txn c.args.rid (Some c.args.before) c.args.after = ap (λ b. Change c.args.owner.txn c.args.rid b c.copy_of-2.result) c.copy_of.ensures ∙ ap (λ a. Change c.args.owner.txn c.args.rid (Some c.args.before) a) c.copy_of-2.ensures in
+    let rec : Change c.args.owner.txn c.args.rid c.copy_of.result c.copy_of-2.result ≡ Change c.args.owner.txn c.args.rid c.args.before c.args.after = ap (λ b. Change c.args.owner.txn c.args.rid b c.copy_of-2.result) c.copy_of.ensures ∙ ap (λ a. Change c.args.owner.txn c.args.rid c.args.before a) c.copy_of-2.ensures in
     let one = owned_is c.try_own-owned.result (locks_of c.args.locks.now c.args.owner.session) (c.try_own-owned.ensures.held ∙ c.requires.alone) c.try_own-owned.ensures.memory (omega (arith, c.requires.spare)) c.try_own-owned.ensures.ok in
-    let two = both_noted c.args.locks.now c.try_own-owned.new.self c.note-noted.new.self c.args.owner.session c.args.rid (Some c.args.before) c.note-noted.result c.is_open.ensures.sessions c.requires.session c.requires.spare one c.note-noted.ensures.memory c.note-noted.ensures.ok in
-    let storage = subst (λ (r : Record). ShowsStorage c.change_with_images.new.storage.now (row_changed c.args.owner.entry c.args.rid r m)) rec (c.in-Ok.ensures.shows opened c.args.owner.entry m registers shows regular) in (
-      refl,
-      subst (λ (l : List Seat). Shows opened c.change_with_images.new.storage.now l registers (row_changed c.args.owner.entry c.args.rid (Change c.args.owner.txn c.args.rid (Some c.args.before) c.args.after) m)) (sym two)
-          (change_shown opened v c.change_with_images.new.storage.now c.args.locks.now registers m c.args.owner.session c.args.owner.txn c.args.owner.entry c.args.rid (Some c.args.before) c.args.after c.requires.session c.requires.open regular shows storage),
-    )
+    let two = both_noted c.args.locks.now c.try_own-owned.new.self c.note-noted.new.self c.args.owner.session c.args.rid c.args.before c.note-noted.result c.is_open.ensures.sessions c.requires.session c.requires.spare one c.note-noted.ensures.memory c.note-noted.ensures.ok in
+    let storage = subst (λ (r : Record). ShowsStorage c.change_with_images.new.storage.now (row_changed c.args.owner.entry c.args.rid r m)) rec (c.in-Ok.ensures.shows opened c.args.owner.entry m registers shows regular) in
+    subst (λ (l : List Seat). Shows opened c.change_with_images.new.storage.now l registers (row_changed c.args.owner.entry c.args.rid (Change c.args.owner.txn c.args.rid c.args.before c.args.after) m)) (sym two)
+    (change_shown opened v c.change_with_images.new.storage.now c.args.locks.now registers m c.args.owner.session c.args.owner.txn c.args.owner.entry c.args.rid c.args.before c.args.after c.requires.session c.requires.open regular shows storage)
 
 pub returns-clause-turns : goal.returns-clause-turns
 returns-clause-turns g c opened turns more =
     let v = c.args.storage.now.now in
     let one = owned_is c.try_own-owned.result (locks_of c.args.locks.now c.args.owner.session) (c.try_own-owned.ensures.held ∙ c.requires.alone) c.try_own-owned.ensures.memory (omega (arith, c.requires.spare)) c.try_own-owned.ensures.ok in
-    let two = both_noted c.args.locks.now c.try_own-owned.new.self c.note-noted.new.self c.args.owner.session c.args.rid (Some c.args.before) c.note-noted.result c.is_open.ensures.sessions c.requires.session c.requires.spare one c.note-noted.ensures.memory c.note-noted.ensures.ok in
-    let now = with_locks c.args.locks.now c.args.owner.session (noted_seat (c.args.rid, Some c.args.before) (owned_more c.args.rid (locks_of c.args.locks.now c.args.owner.session))) in
+    let two = both_noted c.args.locks.now c.try_own-owned.new.self c.note-noted.new.self c.args.owner.session c.args.rid c.args.before c.note-noted.result c.is_open.ensures.sessions c.requires.session c.requires.spare one c.note-noted.ensures.memory c.note-noted.ensures.ok in
+    let now = with_locks c.args.locks.now c.args.owner.session (noted_seat (c.args.rid, c.args.before) (owned_more c.args.rid (locks_of c.args.locks.now c.args.owner.session))) in
     subst (λ (l : List Seat). HasTurns opened c.change_with_images.new.storage.now l) (sym two)
-    (c.in-Ok.ensures.turns opened now turns (change_follows opened v c.args.locks.now c.args.owner.session c.args.owner.txn c.args.rid (Some c.args.before) c.requires.session c.is_open.ensures.sessions c.requires.open more))
+    (c.in-Ok.ensures.turns opened now turns (change_follows opened v c.args.locks.now c.args.owner.session c.args.owner.txn c.args.rid c.args.before c.requires.session c.is_open.ensures.sessions c.requires.open more))
 
 pub returns-clause-stops : goal.returns-clause-stops
 returns-clause-stops g c tells opened m registers earlier shows regular is =
     let v = c.args.storage.now.now in
-    let rec : Change c.args.owner.txn c.args.rid c.copy_of.result c.copy_of-2.result ≡ Change c.args.owner.txn c.args.rid (Some c.args.before) c.args.after = ap (λ b. Change c.args.owner.txn c.args.rid b c.copy_of-2.result) c.copy_of.ensures ∙ ap (λ a. Change c.args.owner.txn c.args.rid (Some c.args.before) a) c.copy_of-2.ensures in
+    let rec : Change c.args.owner.txn c.args.rid c.copy_of.result c.copy_of-2.result ≡ Change c.args.owner.txn c.args.rid c.args.before c.args.after = ap (λ b. Change c.args.owner.txn c.args.rid b c.copy_of-2.result) c.copy_of.ensures ∙ ap (λ a. Change c.args.owner.txn c.args.rid c.args.before a) c.copy_of-2.ensures in
     subst (λ (r : Record). Stops (g.D.Disk.past c.args.storage.now.disk) (g.D.Disk.past c.change_with_images.new.storage.disk) (StandsWithinEither v (anchor_made v c.args.locks.now) earlier (append r m))) rec (c.change_with_images.ensures.stops tells opened m registers earlier shows regular is)
 
 pub returns-clause-stored : goal.returns-clause-stored
 returns-clause-stored g c tells opened m registers earlier shows regular is =
-    let rec : Change c.args.owner.txn c.args.rid c.copy_of.result c.copy_of-2.result ≡ Change c.args.owner.txn c.args.rid (Some c.args.before) c.args.after = ap (λ b. Change c.args.owner.txn c.args.rid b c.copy_of-2.result) c.copy_of.ensures ∙ ap (λ a. Change c.args.owner.txn c.args.rid (Some c.args.before) a) c.copy_of-2.ensures in
+    let rec : Change c.args.owner.txn c.args.rid c.copy_of.result c.copy_of-2.result ≡ Change c.args.owner.txn c.args.rid c.args.before c.args.after = ap (λ b. Change c.args.owner.txn c.args.rid b c.copy_of-2.result) c.copy_of.ensures ∙ ap (λ a. Change c.args.owner.txn c.args.rid c.args.before a) c.copy_of-2.ensures in
     subst (λ (r : Record). IsStored (g.D.Disk.past c.change_with_images.new.storage.disk) c.change_with_images.new.storage.now (behind_of earlier (append r m))) rec (c.in-Ok.ensures.stored tells opened m registers earlier shows regular is)
 
 pub returns-clause-archives : goal.returns-clause-archives
 returns-clause-archives g c tells opened m registers earlier shows regular is asked archives =
-    let r = Change c.args.owner.txn c.args.rid (Some c.args.before) c.args.after in
+    let r = Change c.args.owner.txn c.args.rid c.args.before c.args.after in
     let all : upto m.work.start m.work.records (last_of m) ≡ m.work.records = upto_all m.work.start m.work.records (last_of m) (omega arith) in
     let image : image_with c.args.rid.space c.args.rid.page (page_bytes (page_behind m.work.start m.work.records c.args.rid.space c.args.rid.page)) ≡ image_of_now m c.args.rid =
     ap (λ (l : List Record). image_with c.args.rid.space c.args.rid.page (page_bytes (page_behind m.work.start l c.args.rid.space c.args.rid.page))) (sym all) in
@@ -83,3 +98,9 @@ returns-clause-archives g c tells opened m registers earlier shows regular is as
     (subst (λ (b : Captures). ShowsArchives (archives_behind c.args.images c.args.owner.entry c.args.archives.now) b (row_changed c.args.owner.entry c.args.rid r m))
     (sym (c.in-Ok.ensures.images tells opened m registers earlier shows regular is ∙ ap (λ (i : Image). images_behind c.args.images i c.args.archives.now c.args.storage.now.now.store.before) image))
     (subst (λ (i : Images). ShowsArchives (archives_behind i c.args.owner.entry c.args.archives.now) (images_behind i (image_of_now m c.args.rid) c.args.archives.now c.args.storage.now.now.store.before) (row_changed c.args.owner.entry c.args.rid r m)) (sym asked) shown))
+
+pub returns-clause-places : goal.returns-clause-places
+returns-clause-places g c test are there =
+    let one = owned_is c.try_own-owned.result (locks_of c.args.locks.now c.args.owner.session) (c.try_own-owned.ensures.held ∙ c.requires.alone) c.try_own-owned.ensures.memory (omega (arith, c.requires.spare)) c.try_own-owned.ensures.ok in
+    let two = both_noted c.args.locks.now c.try_own-owned.new.self c.note-noted.new.self c.args.owner.session c.args.rid c.args.before c.note-noted.result c.is_open.ensures.sessions c.requires.session c.requires.spare one c.note-noted.ensures.memory c.note-noted.ensures.ok in
+    subst (λ (l : List Seat). ArePending test l) (sym two) (noted_pending test c.args.locks.now c.args.owner.session c.requires.session c.is_open.ensures.sessions are c.args.rid c.args.before there)

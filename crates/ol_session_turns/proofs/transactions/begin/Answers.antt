@@ -1,8 +1,7 @@
-use Rattle.std.specs.Prelude.{None, Option, Some, false, is_some, true, ℕ, ◌≡◌}
-use Rattle.std.proofs.Common.{ap, refl, subst, sym, ◌∙◌}
+use Rattle.std.specs.Prelude.{◌≡◌}
+use Rattle.std.proofs.Common.{refl, subst, sym, ◌∙◌}
 use Rattle.ol_values.specs.declared.event.Reply.{Reply}
 use Rattle.ol_values.specs.declared.event.Reply.TheVariants.{TxnOpen}
-use Rattle.ol_rules.specs.Locks.{Holding}
 use Rattle.ol_model.specs.Machine.{Machine}
 use Rattle.ol_ports.proofs.StopLaws.{stops_none}
 use Rattle.ol_ports.specs.Stops.{Stops}

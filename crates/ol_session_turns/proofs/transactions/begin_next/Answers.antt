@@ -1,4 +1,4 @@
-use Rattle.std.specs.Prelude.{List, false, true, ℕ, ◌+◌, ◌≡◌}
+use Rattle.std.specs.Prelude.{List, ◌+◌, ◌≡◌}
 use Rattle.std.proofs.Common.{ap, refl, subst, sym, ◌∙◌}
 use Rattle.ol_values.specs.declared.event.Reply.{Reply}
 use Rattle.ol_values.specs.declared.event.Reply.TheVariants.{Begun}
@@ -9,6 +9,7 @@ use Rattle.ol_loglog.specs.RingValue.{RingValue}
 use Rattle.ol_ports.proofs.StopLaws.{stops_weaker}
 use Rattle.ol_ports.specs.Stops.{Stops}
 use Rattle.ol_storage.specs.Behind.{Behind}
+use Rattle.ol_storage.specs.Installation.{Installation}
 use Rattle.ol_storage.specs.Storing.{IsStored}
 use Rattle.ol_txn.specs.Seats.{Seat}
 use Rattle.ol_engine.specs.Parts.{HasTurns, Shows, behind_of}
@@ -16,7 +17,9 @@ use Rattle.ol_engine.specs.Turns.{StandsWithinTurn}
 use Rattle.ol_engine.proofs.Results.{when_false}
 use Rattle.ol_engine.proofs.Stops.{behind_more, record_stops}
 use Rattle.ol_engine.proofs.Turns.{append_rises}
+use Rattle.ol_session_turns.specs.Pending.{HoldsNoMore}
 use Rattle.ol_session_turns.proofs.Begins.{begin_is, begun_machine, begun_shown, begun_turns}
+use Rattle.ol_session_turns.proofs.Places.{begun_held}
 use Rattle.ol_session_turns.proofs.transactions.begin_next.Goals as goal
 
 pub returns-in-Ok-clause-answer : goal.returns-in-Ok-clause-answer
@@ -38,6 +41,15 @@ returns-in-Ok-clause-turns g c =
 
 pub returns-in-Ok-clause-risen : goal.returns-in-Ok-clause-risen
 returns-in-Ok-clause-risen g c = append_rises c.args.storage.now.now c.append.new.self.now (Begin c.next_position-txn.result) c.in-Ok.ensures.step
+
+pub returns-in-Ok-clause-goes : goal.returns-in-Ok-clause-goes
+returns-in-Ok-clause-goes g c =
+    record { going = ap (λ (v : Installation). v.stopped) c.in-Ok.ensures.step ∙ c.requires.going; config = ap (λ (v : Installation). v.ring.config) c.in-Ok.ensures.step; states = ap (λ (v : Installation). v.anchor.states) c.in-Ok.ensures.step }
+
+pub returns-in-Ok-clause-places : goal.returns-in-Ok-clause-places
+returns-in-Ok-clause-places g c =
+    subst (λ (l : List Seat). HoldsNoMore c.args.locks.now l) (sym c.begin-begun.ensures.begun)
+    (begun_held c.args.locks.now c.args.session c.requires.session c.is_open.ensures.sessions c.next_position-txn.result)
 
 pub returns-in-Ok-clause-stops : goal.returns-in-Ok-clause-stops
 returns-in-Ok-clause-stops g c tells m registers before shows regular is =

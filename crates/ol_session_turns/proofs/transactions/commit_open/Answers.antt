@@ -1,21 +1,24 @@
-use Rattle.std.specs.Prelude.{List, Some, false, true, ℕ, ◌+◌, ◌<◌, ◌^◌, ◌≡◌}
+use Rattle.std.specs.Prelude.{List, ◌≡◌}
 use Rattle.std.proofs.Common.{ap, arith, refl, subst, sym, ◌∙◌}
 use Rattle.ol_values.specs.declared.event.Reply.{Reply}
 use Rattle.ol_values.specs.declared.event.Reply.TheVariants.{Committed}
 use Rattle.ol_values.specs.declared.record.Record.TheVariants.{Commit}
-use Rattle.ol_model.specs.Machine.{Machine, last_of}
+use Rattle.ol_model.specs.Machine.{Machine}
 use Rattle.ol_model.specs.Steps.{append}
 use Rattle.ol_loglog.specs.RingValue.{RingValue}
 use Rattle.ol_ports.proofs.StopLaws.{stops_both, stops_weaker}
 use Rattle.ol_ports.specs.Stops.{Stops}
 use Rattle.ol_storage.specs.Behind.{Behind}
+use Rattle.ol_storage.specs.Installation.{Installation}
 use Rattle.ol_storage.specs.Storing.{IsStored}
 use Rattle.ol_txn.specs.Seats.{Seat}
 use Rattle.ol_engine.specs.Parts.{HasTurns, Shows, behind_of}
 use Rattle.ol_engine.specs.Turns.{StandsWithinTurn}
 use Rattle.ol_engine.proofs.Stops.{appended_stops, behind_more, record_stops}
 use Rattle.ol_engine.proofs.Turns.{append_rises, append_room, flush_rises, flush_turns, risen_both}
+use Rattle.ol_session_turns.specs.Pending.{HoldsNoMore}
 use Rattle.ol_session_turns.proofs.Ends.{commit_is, committed_machine, committed_shown, ended_turns, open_owed, owes_one}
+use Rattle.ol_session_turns.proofs.Places.{forgotten_held}
 use Rattle.ol_session_turns.proofs.transactions.commit_open.Goals as goal
 
 pub append-requires-clause-low : goal.append-requires-clause-low
@@ -62,6 +65,18 @@ pub returns-in-Ok-flush-clause-risen : goal.returns-in-Ok-flush-clause-risen
 returns-in-Ok-flush-clause-risen g c =
     risen_both 1 1 c.args.storage.now.now c.append.new.self.now c.flush.new.self.now
     (append_rises c.args.storage.now.now c.append.new.self.now (Commit c.args.txn) c.in-Ok.ensures.step) (flush_rises c.append.new.self.now c.flush.new.self.now c.in-Ok-flush.ensures.step)
+
+pub returns-in-Ok-flush-clause-goes : goal.returns-in-Ok-flush-clause-goes
+returns-in-Ok-flush-clause-goes g c = record {
+  going = ap (λ (v : Installation). v.stopped) c.in-Ok-flush.ensures.step ∙ ap (λ (v : Installation). v.stopped) c.in-Ok.ensures.step ∙ c.requires.going;
+  config = ap (λ (v : Installation). v.ring.config) c.in-Ok-flush.ensures.step ∙ ap (λ (v : Installation). v.ring.config) c.in-Ok.ensures.step;
+  states = ap (λ (v : Installation). v.anchor.states) c.in-Ok-flush.ensures.step ∙ ap (λ (v : Installation). v.anchor.states) c.in-Ok.ensures.step;
+}
+
+pub returns-in-Ok-flush-clause-places : goal.returns-in-Ok-flush-clause-places
+returns-in-Ok-flush-clause-places g c =
+    subst (λ (l : List Seat). HoldsNoMore c.args.locks.now l) (sym c.forget.ensures)
+    (forgotten_held c.args.locks.now c.args.session c.requires.session c.is_open.ensures.sessions)
 
 pub returns-in-Ok-flush-clause-stops : goal.returns-in-Ok-flush-clause-stops
 returns-in-Ok-flush-clause-stops g c tells opened m registers before shows regular is =

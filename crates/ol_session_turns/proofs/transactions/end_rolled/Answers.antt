@@ -1,4 +1,4 @@
-use Rattle.std.specs.Prelude.{List, Some, false, true, ℕ, ◌+◌, ◌<◌, ◌^◌, ◌≡◌}
+use Rattle.std.specs.Prelude.{List, ◌≡◌}
 use Rattle.std.proofs.Common.{ap, arith, refl, subst, sym, ◌∙◌}
 use Rattle.ol_values.specs.declared.event.Reply.{Reply}
 use Rattle.ol_values.specs.declared.event.Reply.TheVariants.{RolledBack}
@@ -8,12 +8,15 @@ use Rattle.ol_loglog.specs.RingValue.{RingValue}
 use Rattle.ol_ports.proofs.StopLaws.{stops_weaker}
 use Rattle.ol_ports.specs.Stops.{Stops}
 use Rattle.ol_storage.specs.Behind.{Behind}
+use Rattle.ol_storage.specs.Installation.{Installation}
 use Rattle.ol_storage.specs.Storing.{IsStored}
 use Rattle.ol_txn.specs.Seats.{Seat}
 use Rattle.ol_engine.specs.Parts.{HasTurns, Shows, behind_of}
 use Rattle.ol_engine.specs.Turns.{StandsWithinTurn}
 use Rattle.ol_engine.proofs.Stops.{behind_more, record_stops}
+use Rattle.ol_session_turns.specs.Pending.{HoldsNoMore}
 use Rattle.ol_session_turns.proofs.Ends.{end_is, ended_turns, open_owed, rolled_machine, rolled_shown}
+use Rattle.ol_session_turns.proofs.Places.{forgotten_held}
 use Rattle.ol_session_turns.proofs.transactions.end_rolled.Goals as goal
 
 pub append-requires-clause-low : goal.append-requires-clause-low
@@ -35,6 +38,15 @@ returns-in-Ok-clause-turns g c opened turns =
     let v = c.args.storage.now.now in
     subst (λ (l : List Seat). HasTurns opened c.append.new.self.now l) (sym c.forget.ensures)
     (ended_turns opened v c.append.new.self.now c.args.locks.now c.args.session c.args.txn (Rolled c.args.txn) (omega arith) c.requires.session c.is_open.ensures.sessions c.is_stopped.ensures.ring.limits.first c.requires.open c.in-Ok.ensures.step c.in-Ok.ensures.ring turns)
+
+pub returns-in-Ok-clause-goes : goal.returns-in-Ok-clause-goes
+returns-in-Ok-clause-goes g c =
+    record { going = ap (λ (v : Installation). v.stopped) c.in-Ok.ensures.step ∙ c.requires.going; config = ap (λ (v : Installation). v.ring.config) c.in-Ok.ensures.step; states = ap (λ (v : Installation). v.anchor.states) c.in-Ok.ensures.step }
+
+pub returns-in-Ok-clause-places : goal.returns-in-Ok-clause-places
+returns-in-Ok-clause-places g c =
+    subst (λ (l : List Seat). HoldsNoMore c.args.locks.now l) (sym c.forget.ensures)
+    (forgotten_held c.args.locks.now c.args.session c.requires.session c.is_open.ensures.sessions)
 
 pub returns-in-Ok-clause-stops : goal.returns-in-Ok-clause-stops
 returns-in-Ok-clause-stops g c tells opened m registers before shows regular is =
