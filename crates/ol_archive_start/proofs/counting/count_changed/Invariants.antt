@@ -1,0 +1,16 @@
+use Rattle.std.specs.Prelude.{◌≡◌, ◌≤◌}
+use Rattle.ol_free_slots.specs.Slots.{IsRead}
+use Rattle.ol_storage.specs.Behind.{Behind, pages_of}
+use Rattle.ol_storage.specs.Storing.{IsStored}
+use Rattle.ol_archive_start.specs.Starting.{changed_upto}
+use Rattle.ol_archive_start.proofs.counting.count_changed.Given as goal
+
+abbrev pub invariant-loop-page : goal.invariant-loop-page
+invariant-loop-page g l = record {
+  read : IsRead l.fn.storage.now l.storage.now;
+  past : g.D.Disk.tells → g.D.Disk.past l.storage.disk ≡ g.D.Disk.past l.fn.storage.disk;
+  stored : g.D.Disk.tells → (b : Behind) → IsStored (g.D.Disk.past l.fn.storage.disk) l.fn.storage.now b → IsStored (g.D.Disk.past l.storage.disk) l.storage.now b;
+  faults : g.D.Disk.fault_counts l.storage.disk ≡ g.D.Disk.fault_counts l.fn.storage.disk;
+  limit : l.count ≤ l.page;
+  counted : g.D.Disk.tells → (b : Behind) → IsStored (g.D.Disk.past l.fn.storage.disk) l.fn.storage.now b → l.count ≡ changed_upto (pages_of l.fn.storage.now.anchor b) l.space l.base l.page;
+}

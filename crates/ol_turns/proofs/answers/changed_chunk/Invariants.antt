@@ -1,0 +1,7 @@
+use Rattle.std.specs.Prelude.{slice_index_or, ℕ, ◌<◌, ◌≡◌}
+use Rattle.ol_turns.proofs.answers.changed_chunk.Given as goal
+
+abbrev pub invariant-loop-chunk : goal.invariant-loop-chunk
+invariant-loop-chunk g l = record {
+  same : (i : ℕ) → i < l.chunk → slice_index_or l.counts i 0 ≡ g.D.Disk.fault_counts l.disk i;
+}

@@ -1,0 +1,82 @@
+use Rattle.std.specs.Prelude.{[], length, ℕ, ◌+◌, ◌≡◌}
+use Rattle.std.proofs.Common.{ap, arith, refl, subst, sym, ◌∙◌}
+use Rattle.ol_values.specs.declared.event.Event.TheVariants.{ArchiveCancel}
+use Rattle.ol_values.specs.declared.history.Actor.{Actor}
+use Rattle.ol_archive_turns.specs.Turns.{Tells, cancel_turn}
+use Rattle.ol_engine.proofs.Going.{goes_beside}
+use Rattle.ol_engine.specs.Parts.{behind_of}
+use Rattle.ol_model.specs.Machine.{archive_of}
+use Rattle.ol_model.specs.Turns.{comes_first, given_by, number_of, turn_of}
+use Rattle.ol_row_turns.proofs.Changes.{none_found}
+use Rattle.ol_storage.specs.Causes.{HasStorageCause}
+use Rattle.ol_storage.specs.Installation.{config_of}
+use Rattle.ol_turns.specs.Cores.{HasReplyCause, Runs, history_of, machine_of, surely}
+use Rattle.ol_turns.specs.declared.state.State.{State}
+use Rattle.ol_turns.proofs.Archiving.{archive_answers, cancel_calm, cancel_plain, cancel_same, cancel_yields, fine, quiet_cause, risen_beside}
+use Rattle.ol_turns.proofs.Goes.{calm_answer, goes_with, ready_of, stopped_runs}
+use Rattle.ol_turns.proofs.Wholes.{going_after, places_same, whole_on}
+use Rattle.ol_turns.proofs.engine.Core.archive_cancel.Goals as goal
+
+pub returns-in-Some-clause-runs : goal.returns-in-Some-clause-runs
+returns-in-Some-clause-runs g c tells earlier begun runs =
+    let past = g.D.Disk.past c.args.self.now.storage.disk in
+    subst (λ (x : State). Runs earlier begun past c.args.self.now.storage.now x) (sym c.refuse.ensures.state)
+    (stopped_runs earlier begun past c.args.self.now.storage.now c.args.self.now.state c.args.by (ArchiveCancel c.args.why) _ _ c.in-Some.entry c.in-Some.is runs)
+
+pub returns-clause-whole : goal.returns-clause-whole
+returns-clause-whole g c =
+    let old = c.args.self.now.state in
+    let v = c.args.self.now.storage.now in
+    let w = c.cancel-reply.new.storage.now in
+    let s : State = record old { archives = c.cancel-reply.new.archives } in
+    let faults = g.D.Disk.fault_counts c.args.self.now.storage.disk in
+    let now = g.D.Disk.fault_counts c.cancel-reply.new.storage.disk in
+    let going = c.requires.whole (none_found old.stopped c.in_default.not-Some) in
+    let answered = (fine c.cancel-reply.result) in
+    let e = c.cancel-reply.ensures in
+    let goes = goes_beside v w going.going e.step in
+    let places = places_same v w old.locks goes going.places in
+    let after = going_after faults now v w old s 1 (length (history_of old)) answered (omega arith) going refl refl goes (e.turns old.opened old.locks going.turns) places (e.up going.up) (e.numbers going.numbers) (risen_beside 1 v w e.step) (λ failed. ap g.D.Disk.fault_counts e.disk) in
+    whole_on faults now w s c.args.by (ArchiveCancel c.args.why) _ _ answered (surely c.finish_surely.result) c.finish_surely.new.self after (λ starved. absurd cc)
+    c.finish_surely.ensures.told c.finish_surely.ensures.state tt
+
+pub returns-clause-runs : goal.returns-clause-runs
+returns-clause-runs g c tells earlier begun runs =
+    let old = c.args.self.now.state in
+    let v = c.args.self.now.storage.now in
+    let w = c.cancel-reply.new.storage.now in
+    let s : State = record old { archives = c.cancel-reply.new.archives } in
+    let past = g.D.Disk.past c.cancel-reply.new.storage.disk in
+    let none = none_found old.stopped c.in_default.not-Some in
+    let told = runs.told none in
+    let going = c.requires.whole none in
+    let m = machine_of begun old in
+    let k = c.archiver_of.result in
+    let answered = (fine c.cancel-reply.result) in
+    let e = c.cancel-reply.ensures in
+    let r = cancel_turn c.args.count m k c.args.why in
+    let shown = told.shown in
+    goes_with earlier begun past w s c.args.by (ArchiveCancel c.args.why) _ _ m r answered (surely c.finish_surely.result) c.finish_surely.new.self
+    runs.steps refl none (ready_of earlier _ v old m told)
+    (ap (λ (a : Actor). turn_of [] (given_by r.0) m (length (history_of s) + 1) (number_of a) (ArchiveCancel c.args.why)) c.archiver_of.ensures.actor ∙ cancel_plain c.args.count m 0 k c.args.why (archive_of m k))
+    (λ last given dirty. ap (λ (a : Actor). comes_first (turn_of [] given m (length (history_of s) + 1) (number_of a) (ArchiveCancel c.args.why)).0) c.archiver_of.ensures.actor ∙ cancel_yields c.args.count m k c.args.why (archive_of m k) last given)
+    (cancel_calm c.args.count m k c.args.why (archive_of m k)) tt
+    (archive_answers earlier past w s m r answered (e.answer old.opened old.locks old.registers m (shown.shows, shown.archives)) (cancel_same c.args.count m k c.args.why (archive_of m k)) (e.stored tells (behind_of earlier m) shown.stored) (λ starved. absurd cc) shown.full shown.going)
+    c.finish_surely.ensures.told c.finish_surely.ensures.state tt
+
+pub returns-clause-cause : goal.returns-clause-cause
+returns-clause-cause g c tells earlier begun runs =
+    let old = c.args.self.now.state in
+    let v = c.args.self.now.storage.now in
+    let none = none_found old.stopped c.in_default.not-Some in
+    let told = runs.told none in
+    let going = c.requires.whole none in
+    let shown = told.shown in
+    let m = machine_of begun old in
+    let k = c.archiver_of.result in
+    let e = c.cancel-reply.ensures in
+    let faults = g.D.Disk.fault_counts c.args.self.now.storage.disk in
+    let now : g.D.Disk.fault_counts c.disk-2.result.now ≡ g.D.Disk.fault_counts c.cancel-reply.new.storage.disk = ap g.D.Disk.fault_counts c.disk-2.ensures in
+    subst (λ (f : ℕ → ℕ). HasReplyCause faults f c.finish_surely.result) now
+    (c.finish_surely.ensures.cause (config_of v) faults going.counts (omega (arith, c.is_stopped.ensures.ring.config.chunks)) (subst (λ (f : ℕ → ℕ). HasStorageCause (config_of v) faults f (fine c.cancel-reply.result)) (sym now) (quiet_cause (config_of v) faults _ c.cancel-reply.result (ap g.D.Disk.fault_counts e.disk)))
+    (calm_answer m (λ n. Tells old.opened c.cancel-reply.new.storage.now old.locks old.registers c.cancel-reply.new.archives n) (cancel_turn c.args.count m k c.args.why) (fine c.cancel-reply.result) (cancel_calm c.args.count m k c.args.why (archive_of m k)) (e.answer old.opened old.locks old.registers m (shown.shows, shown.archives))))
