@@ -4,3 +4,4 @@ pub mod PageOwners
 pub mod PageSharings
 pub mod Sharings
 pub mod RowTurns
+pub mod SharedPlaces

@@ -1,11 +1,13 @@
 //! The rows of a page are listed.
 
-ghost use Rattle.std.specs.Prelude.{◌≡◌, ◌<◌, ◌⊎◌, IsErrOf, None, OnErr, Some, false, true, ℕ};
+ghost use Rattle.std.specs.Prelude.{◌≡◌, ◌<◌, ◌⊎◌, Bool, IsErrOf, None, OnErr, Some, false, true, ℕ};
 ghost use Rattle.ol_values.specs.declared.record.Record.{Record as RecordValue};
+ghost use Rattle.ol_values.specs.declared.record.Rid.{Rid as RidValue};
 ghost use Rattle.ol_values.specs.Config.{has_page};
 ghost use Rattle.ol_model.specs.Machine.{Machine, seat_of};
 ghost use Rattle.ol_model.specs.SessionTurns.{list_at};
 ghost use Rattle.ol_pool.specs.Frames.{frame_of};
+ghost use Rattle.ol_session_turns.specs.Pending.{ArePending};
 ghost use Rattle.ol_storage.specs.Behind.{Behind, is_up};
 ghost use Rattle.ol_storage.specs.Causes.{HasStorageCause};
 ghost use Rattle.ol_storage.specs.Installation.{config_of, with_store};
@@ -50,6 +52,7 @@ pub fn list<D: Disk>(
     ensures past { D.tells → D.past storage.new.disk ≡ D.past storage.old.disk }
     ensures stored { D.tells → (g : Behind) → IsStored (D.past storage.old.disk) storage.old.now g → (IsErrOf result StorageFault.Failed → ⊥) → IsStored (D.past storage.new.disk) storage.new.now g }
     ensures unlocked { OnErr result (locks.new ≡ locks.old) }
+    ensures places { (test : RidValue → Bool) → ArePending test locks.old → ArePending test locks.new }
     ensures memory { IsErrOf result StorageFault.NoMemory → (frame_of storage.old.now.store.pool space page ≡ None) ⊎ ((locks_of locks.old session).spare < 31) }
     ensures stopped { IsErrOf result StorageFault.Failed → storage.new.now.stopped ≡ true }
     ensures only { IsErrOf result StorageFault.Stopped → ⊥ }

@@ -1,13 +1,15 @@
 //! A row is read.
 
-ghost use Rattle.std.specs.Prelude.{◌≡◌, ◌⊎◌, IfErr, IfOk, IsErrOf, None, Ok, OnErr, OnOk, false, length, true, ℕ};
+ghost use Rattle.std.specs.Prelude.{◌≡◌, ◌⊎◌, Bool, IfErr, IfOk, IsErrOf, None, Ok, OnErr, OnOk, false, length, true, ℕ};
 ghost use Rattle.ol_values.specs.declared.record.Record.{Record as RecordValue};
+ghost use Rattle.ol_values.specs.declared.record.Rid.{Rid as RidValue};
 ghost use Rattle.ol_values.specs.declared.event.Reply.TheVariants.{RowIs as RowReply};
 ghost use Rattle.ol_values.specs.Config.{has_place};
 ghost use Rattle.ol_rules.specs.Locks.{holder_of};
 ghost use Rattle.ol_model.specs.Machine.{Machine, seat_of};
 ghost use Rattle.ol_model.specs.SessionTurns.{read_at};
 ghost use Rattle.ol_pool.specs.Frames.{frame_of};
+ghost use Rattle.ol_session_turns.specs.Pending.{ArePending};
 ghost use Rattle.ol_storage.specs.Behind.{Behind, is_up};
 ghost use Rattle.ol_storage.specs.Causes.{HasStorageCause};
 ghost use Rattle.ol_storage.specs.Installation.{config_of, with_store};
@@ -47,6 +49,7 @@ pub fn read<D: Disk>(
     ensures past { D.tells → D.past storage.new.disk ≡ D.past storage.old.disk }
     ensures stored { D.tells → (g : Behind) → IsStored (D.past storage.old.disk) storage.old.now g → (IsErrOf result StorageFault.Failed → ⊥) → IsStored (D.past storage.new.disk) storage.new.now g }
     ensures unlocked { OnErr result (locks.new ≡ locks.old) }
+    ensures places { (test : RidValue → Bool) → ArePending test locks.old → ArePending test locks.new }
     ensures memory { IsErrOf result StorageFault.NoMemory → (frame_of storage.old.now.store.pool rid.space rid.page ≡ None) ⊎ ((locks_of locks.old session).spare ≡ 0) }
     ensures stopped { IsErrOf result StorageFault.Failed → storage.new.now.stopped ≡ true }
     ensures only { IsErrOf result StorageFault.Stopped → ⊥ }

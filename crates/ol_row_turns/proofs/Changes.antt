@@ -277,3 +277,13 @@ restored v w u first second = second ∙ ap (λ (x : Installation). with_store x
 -- where nothing was asked of the disk, an image stands for a record more
 pub record_stands : (v : Installation) (a : Anchor) (earlier : ℕ → Record) (m : Machine) (r : Record) (d : Bytes) → IsBehind (behind_of earlier m) → StandsWithinTurn v earlier m d → StandsWithinEither v a earlier (append r m) d
 record_stands v a earlier m r d is s = either_more v a earlier m r d is (inl s)
+
+-- what an error leaves behind a page that came into memory
+pub restored_err : {A : Type 0} (v w u : Installation) (r : Result A StorageFault) → w ≡ with_store v w.store → OnErr r ((IsErrOf r Failed → ⊥) → u ≡ with_store w u.store) → OnErr r ((IsErrOf r Failed → ⊥) → u ≡ with_store v u.store)
+restored_err v w u (Ok x) first second = tt
+restored_err v w u (Err fault) first second = λ calm. restored v w u first (second calm)
+
+-- a call that failed, where it is the only fault, leaves nothing to say where none failed
+pub only_failed : {A : Type 0} (P : Type 0) (r : Result A StorageFault) → IfErr r (λ f. f ≡ Failed) → OnErr r ((IsErrOf r Failed → ⊥) → P)
+only_failed P (Ok x) only = tt
+only_failed P (Err fault) only = λ calm. absurd (calm (ap (λ f. Err f) only))

@@ -1,6 +1,6 @@
 //! A row is inserted.
 
-ghost use Rattle.std.specs.Prelude.{◌≡◌, ◌⊎◌, Bool, IfErr, IsErrOf, List, None, OnOk, Some, false, length, true, ℕ};
+ghost use Rattle.std.specs.Prelude.{◌≡◌, ◌⊎◌, Bool, IfErr, IsErrOf, List, None, OnErr, OnOk, Some, false, length, true, ℕ};
 ghost use Rattle.ol_values.specs.declared.record.Record.{Record as RecordValue};
 ghost use Rattle.ol_values.specs.declared.record.Rid.{Rid as RidValue};
 ghost use Rattle.ol_values.specs.Config.{has_place};
@@ -11,7 +11,7 @@ ghost use Rattle.ol_ports.specs.Stops.{Stops};
 ghost use Rattle.ol_running.specs.Running.{ShowsArchives};
 ghost use Rattle.ol_storage.specs.Behind.{is_up};
 ghost use Rattle.ol_storage.specs.Causes.{HasStorageCause};
-ghost use Rattle.ol_storage.specs.Installation.{config_of};
+ghost use Rattle.ol_storage.specs.Installation.{config_of, with_store};
 ghost use Rattle.ol_storage.specs.Storing.{IsStored};
 ghost use Rattle.ol_turn_laws.specs.Room.{Regular};
 ghost use Rattle.ol_txn.specs.Seats.{IsSession, seat_of as locks_of, table_of};
@@ -57,6 +57,8 @@ pub fn insert<D: Disk>(
     ensures turns { (IsErrOf result StorageFault.Failed → ⊥) → HasTurns opened storage.new.now locks.new }
     ensures risen { OnOk result (HasRisen 2 storage.old.now storage.new.now) }
     ensures goes { (IsErrOf result StorageFault.Failed → ⊥) → GoesOn storage.old.now storage.new.now }
+    ensures unwritten { OnErr result ((IsErrOf result StorageFault.Failed → ⊥) → storage.new.now ≡ with_store storage.old.now storage.new.now.store) }
+    ensures untouched { OnErr result ((IsErrOf result StorageFault.Failed → ⊥) → (locks.new ≡ locks.old) × (archives.new ≡ archives.old)) }
     ensures cursors { SameCursors archives.old archives.new }
     ensures places { (test : RidValue → Bool) → ArePending test locks.old → test rid ≡ true → (IsErrOf result StorageFault.Failed → ⊥) → ArePending test locks.new }
     ensures archives { D.tells → (register : ℕ) (m : Machine) (registers : Registers) (earlier : ℕ → RecordValue) → Shows opened storage.old.now locks.old registers m → Regular m → IsStored (D.past storage.old.disk) storage.old.now (behind_of earlier m) → ShowsArchives archives.old storage.old.now.store.before m

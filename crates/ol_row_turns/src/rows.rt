@@ -16,7 +16,7 @@ ghost use Rattle.ol_pool.specs.Frames.{frame_of};
 ghost use Rattle.ol_ports.specs.Stops.{Stops};
 ghost use Rattle.ol_storage.specs.Behind.{is_up};
 ghost use Rattle.ol_storage.specs.Causes.{HasStorageCause};
-ghost use Rattle.ol_storage.specs.Installation.{config_of};
+ghost use Rattle.ol_storage.specs.Installation.{config_of, with_store};
 ghost use Rattle.ol_storage.specs.Storing.{IsStored};
 ghost use Rattle.ol_store.specs.Stores.{CanCapture, image_with};
 ghost use Rattle.ol_turn_laws.specs.Room.{Regular};
@@ -67,6 +67,8 @@ pub fn change<D: Disk>(
     ensures turns { (IsErrOf result StorageFault.Failed → ⊥) → HasTurns opened storage.new.now locks.new }
     ensures risen { OnOk result (HasRisen 2 storage.old.now storage.new.now) }
     ensures goes { (IsErrOf result StorageFault.Failed → ⊥) → GoesOn storage.old.now storage.new.now }
+    ensures unwritten { OnErr result ((IsErrOf result StorageFault.Failed → ⊥) → storage.new.now ≡ with_store storage.old.now storage.new.now.store) }
+    ensures untouched { OnErr result ((IsErrOf result StorageFault.Failed → ⊥) → (locks.new ≡ locks.old) × (archives.new ≡ archives.old)) }
     ensures cursors { SameCursors archives.old archives.new }
     ensures places { (test : RidValue → Bool) → ArePending test locks.old → test rid ≡ true → (IsErrOf result StorageFault.Failed → ⊥) → ArePending test locks.new }
     ensures archives { D.tells → (m : Machine) (registers : Registers) (earlier : ℕ → RecordValue) → Shows opened storage.old.now locks.old registers m → Regular m → IsStored (D.past storage.old.disk) storage.old.now (behind_of earlier m) → ShowsArchives archives.old storage.old.now.store.before m
@@ -135,6 +137,8 @@ pub fn write_row<D: Disk>(
     ensures turns { (IsErrOf result StorageFault.Failed → ⊥) → HasTurns opened storage.new.now locks.new }
     ensures risen { OnOk result (HasRisen 2 storage.old.now storage.new.now) }
     ensures goes { (IsErrOf result StorageFault.Failed → ⊥) → GoesOn storage.old.now storage.new.now }
+    ensures unwritten { OnErr result ((IsErrOf result StorageFault.Failed → ⊥) → storage.new.now ≡ with_store storage.old.now storage.new.now.store) }
+    ensures untouched { OnErr result ((IsErrOf result StorageFault.Failed → ⊥) → (locks.new ≡ locks.old) × (archives.new ≡ archives.old)) }
     ensures cursors { SameCursors archives.old archives.new }
     ensures places { (test : RidValue → Bool) → ArePending test locks.old → test rid ≡ true → (IsErrOf result StorageFault.Failed → ⊥) → ArePending test locks.new }
     ensures archives { D.tells → (m : Machine) (registers : Registers) (earlier : ℕ → RecordValue) → Shows opened storage.old.now locks.old registers m → Regular m → IsStored (D.past storage.old.disk) storage.old.now (behind_of earlier m)

@@ -50,7 +50,7 @@ same_beside l b h m n config start records archives rows stopped is = record {
   going = stopped ∙ is.going;
 }
 
-seat_beside : (l : List (Option Running)) (b : Captures) (h : Hints) (k : ℕ) (s : Seat) (m : Machine) → IsBeside l b h m → IsBeside l b h (with_seat k s m)
+pub seat_beside : (l : List (Option Running)) (b : Captures) (h : Hints) (k : ℕ) (s : Seat) (m : Machine) → IsBeside l b h m → IsBeside l b h (with_seat k s m)
 seat_beside l b h k s m is = same_beside l b h m (with_seat k s m) refl refl refl refl (λ rid. refl) refl is
 
 pub flush_beside : (l : List (Option Running)) (b : Captures) (h : Hints) (m : Machine) → IsBeside l b h m → IsBeside l b h (flush m)

@@ -107,7 +107,7 @@ impl<D: Disk> Core<D> {
 }
 
 // The number of a session.
-fn session_of(actor: Actor) -> u8
+pub(crate) fn session_of(actor: Actor) -> u8
     requires { IsOfSession actor }
     ensures actor { actor ≡ SessionValue result }
     ensures session { IsSession result }

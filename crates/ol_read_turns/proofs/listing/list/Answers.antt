@@ -12,6 +12,8 @@ use Rattle.ol_free_slots.proofs.Reading.{other_answer, read_shows}
 use Rattle.ol_read_turns.specs.PageSlots.{full_among, is_set}
 use Rattle.ol_read_turns.proofs.ListTurns.{bits_told, list_answer, list_is, list_turns, list_yields, owner_told, set_told, up_told}
 use Rattle.ol_read_turns.proofs.RowTurns.{faulted, no_owner, read_turns}
+use Rattle.ol_read_turns.specs.PageSlots.{full_among, is_set}
+use Rattle.ol_read_turns.proofs.SharedPlaces.{slots_pending}
 use Rattle.ol_read_turns.proofs.listing.list.Goals as goal
 
 pub returns-in-Some-clause-answer : goal.returns-in-Some-clause-answer
@@ -54,3 +56,7 @@ returns-in-Err-clause-answer g c tells opened m registers earlier shows regular 
 
 pub returns-in-Err-clause-good : goal.returns-in-Err-clause-good
 returns-in-Err-clause-good g c tells b stored chunk at e = c.in-Err.ensures.good tells b stored chunk at (other_answer c.in-Err.fault (Bad chunk at) e)
+
+pub returns-in-Ok-clause-places : goal.returns-in-Ok-clause-places
+returns-in-Ok-clause-places g c test are =
+    slots_pending test c.args.locks.now c.share_slots.new.locks c.args.session 31 (full_among (is_set c.in-Ok.bits) c.args.space c.args.page 31) c.share_slots.result c.share_slots.ensures.ok c.share_slots.ensures.unchanged c.requires.session c.share_slots.ensures.sessions are

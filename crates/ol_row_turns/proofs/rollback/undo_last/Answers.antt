@@ -18,7 +18,7 @@ use Rattle.ol_engine.specs.Parts.{Shows, anchor_made, behind_of}
 use Rattle.ol_engine.specs.Turns.{StandsWithinEither}
 use Rattle.ol_engine.proofs.Stops.{rest_stops}
 use Rattle.ol_row_turns.specs.Images.{images_asked}
-use Rattle.ol_row_turns.proofs.Changes.{leaves_ok, leaves_same, loaded_shown, loaded_turns, record_stands, restored, unless_failed}
+use Rattle.ol_row_turns.proofs.Changes.{leaves_ok, leaves_same, loaded_shown, loaded_turns, only_failed, record_stands, restored, unless_failed}
 use Rattle.ol_row_turns.proofs.Keeping.{room_asks, room_shown}
 use Rattle.ol_engine.specs.Parts.{GoesOn}
 use Rattle.ol_engine.proofs.Going.{goes_beside, goes_both, goes_same}
@@ -143,3 +143,18 @@ returns-in-Err-ask_images-clause-goes g c ok =
 
 pub returns-in-Ok-ask_images-clause-places : goal.returns-in-Ok-ask_images-clause-places
 returns-in-Ok-ask_images-clause-places g c test are ok = unless_failed c.put_back.result c.put_back.ensures.only (c.put_back.ensures.places test are) ok
+
+pub returns-in-Ok-ask_images-clause-unwritten : goal.returns-in-Ok-ask_images-clause-unwritten
+returns-in-Ok-ask_images-clause-unwritten g c = only_failed _ c.put_back.result c.put_back.ensures.only
+
+pub returns-in-Ok-ask_images-clause-untouched : goal.returns-in-Ok-ask_images-clause-untouched
+returns-in-Ok-ask_images-clause-untouched g c = only_failed _ c.put_back.result c.put_back.ensures.only
+
+pub returns-in-Err-clause-unwritten : goal.returns-in-Err-clause-unwritten
+returns-in-Err-clause-unwritten g c ok =
+    let same = c.in-Err.ensures.unchanged (λ failed. let fault : c.in-Err.fault ≡ Failed = cc in ok (ap (λ f. Err f) fault)) in
+    subst (λ (x : Installation). x ≡ with_store c.args.storage.now.now x.store) (sym same) refl
+
+pub returns-in-Err-ask_images-clause-unwritten : goal.returns-in-Err-ask_images-clause-unwritten
+returns-in-Err-ask_images-clause-unwritten g c ok =
+    restored c.args.storage.now.now c.read.new.self.now c.ask_images.new.storage.now c.in-Ok.ensures.step (c.in-Err-ask_images.ensures.step (λ failed. let fault : c.in-Err-ask_images.fault ≡ Failed = cc in ok (ap (λ f. Err f) fault)))

@@ -10,7 +10,7 @@ use Rattle.ol_ports.proofs.StopLaws.{stops_none, stops_weaker}
 use Rattle.ol_ports.specs.Disk.{Past}
 use Rattle.ol_ports.specs.Stops.{Stops}
 use Rattle.ol_store.specs.Stores.{Store}
-use Rattle.ol_storage.specs.Installation.{Installation}
+use Rattle.ol_storage.specs.Installation.{Installation, with_store}
 use Rattle.ol_storage.specs.declared.storage.StorageFault.TheVariants.{Bad, Failed}
 use Rattle.ol_storage.specs.Storing.{IsStored}
 use Rattle.ol_engine.specs.Parts.{Shows, anchor_made, behind_of}
@@ -18,7 +18,7 @@ use Rattle.ol_engine.specs.Turns.{Answers, StandsWithinEither}
 use Rattle.ol_running.specs.Running.{ShowsArchives}
 use Rattle.ol_engine.proofs.Stops.{rest_stops}
 use Rattle.ol_row_turns.specs.Turns.{Leaves, row_turn, written_turn}
-use Rattle.ol_row_turns.proofs.Changes.{empty_turn, fault_answer, found_turn, leaves_same, loaded_shown, loaded_turns, locked_turn, none_found, row_read, row_stands, row_yields}
+use Rattle.ol_row_turns.proofs.Changes.{empty_turn, restored_err, fault_answer, found_turn, leaves_same, loaded_shown, loaded_turns, locked_turn, none_found, row_read, row_stands, row_yields}
 use Rattle.ol_engine.specs.Parts.{GoesOn}
 use Rattle.ol_engine.proofs.Going.{goes_beside, goes_both, goes_same}
 use Rattle.ol_row_turns.proofs.rows.change.Goals as goal
@@ -179,3 +179,11 @@ pub returns-in-Err-clause-goes : goal.returns-in-Err-clause-goes
 returns-in-Err-clause-goes g c ok =
     let same = c.in-Err.ensures.unchanged (λ failed. let fault : c.in-Err.fault ≡ Failed = cc in ok (ap (λ f. Err f) fault)) in
     subst (λ (x : Installation). GoesOn c.args.storage.now.now x) (sym same) (goes_same c.args.storage.now.now c.requires.going)
+
+pub returns-in-Ok-Some-clause-unwritten : goal.returns-in-Ok-Some-clause-unwritten
+returns-in-Ok-Some-clause-unwritten g c = restored_err c.args.storage.now.now c.read.new.self.now c.write_row.new.storage.now c.write_row.result c.in-Ok-Some.ensures.step c.write_row.ensures.unwritten
+
+pub returns-in-Err-clause-unwritten : goal.returns-in-Err-clause-unwritten
+returns-in-Err-clause-unwritten g c ok =
+    let same = c.in-Err.ensures.unchanged (λ failed. let fault : c.in-Err.fault ≡ Failed = cc in ok (ap (λ f. Err f) fault)) in
+    subst (λ (x : Installation). x ≡ with_store c.args.storage.now.now x.store) (sym same) refl

@@ -231,3 +231,15 @@ returns-in-Ok-put-clause-goes g c ok =
 pub returns-in-Ok-put-clause-places : goal.returns-in-Ok-put-clause-places
 returns-in-Ok-put-clause-places g c test are there ok =
     c.in-Ok-put.ensures.places test (subst (λ (l : List Seat). ArePending test l) (sym c.in-Ok-reserve.ensures.ok) (reserved_pending test c.args.locks.now c.args.owner.session c.requires.session c.is_open.ensures.sessions are 2)) there
+
+pub returns-in-Err-clause-unwritten : goal.returns-in-Err-clause-unwritten
+returns-in-Err-clause-unwritten g c ok = c.in-Err.ensures.step (λ failed. let same : c.in-Err.fault ≡ Failed = cc in ok (ap (λ f. Err f) same))
+
+pub returns-in-Err-reserve-clause-unwritten : goal.returns-in-Err-reserve-clause-unwritten
+returns-in-Err-reserve-clause-unwritten g c ok = c.in-Ok.ensures.step (λ failed. cc)
+
+pub returns-in-Err-put-clause-unwritten : goal.returns-in-Err-put-clause-unwritten
+returns-in-Err-put-clause-unwritten g c ok = absurd (ok (ap (λ f. Err f) c.in-Err-put.ensures.only))
+
+pub returns-in-Err-put-clause-untouched : goal.returns-in-Err-put-clause-untouched
+returns-in-Err-put-clause-untouched g c ok = absurd (ok (ap (λ f. Err f) c.in-Err-put.ensures.only))
