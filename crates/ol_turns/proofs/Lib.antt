@@ -1,6 +1,7 @@
 pub mod Archiving
 pub mod Begins
 pub mod Besides
+pub mod Changing
 pub mod Goes
 pub mod Named
 pub mod Reading

@@ -4,6 +4,7 @@
 mod answers;
 mod archive_starts;
 mod archive_turns;
+mod changes;
 mod engine;
 mod entries;
 mod lists;
@@ -12,6 +13,7 @@ mod reads;
 mod registers;
 mod session_turns;
 mod state;
+mod undoing;
 
 pub use engine::Core;
 pub use entries::Entries;
