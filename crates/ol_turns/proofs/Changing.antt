@@ -1,184 +1,147 @@
--- Turns that change rows: what they leave beside the row.
-use Rattle.std.specs.List.{All}
-use Rattle.std.specs.Prelude.{Err, IfErr, IfSome, IsErrOf, List, None, Ok, OnOk, Option, Result, Some, false, if◌then◌else◌, is_none, is_some, length, min, nat_lt, slice_get, slice_index, slice_set, suc, true, unwrap_or, zero, ℕ, [], ◌++◌, ◌<◌, ◌∷◌, ◌≡◌, ◌≤◌}
+-- A row changes: the machine's turn by what its target names, the hints beside it, and how a turn over the parts and the state is entered.
+use Rattle.std.specs.Prelude.{Bool, Err, IfErr, IfOk, IsErrOf, List, None, OnErr, OnOk, Ok, Option, Result, Some, [], false, if◌then◌else◌, is_none, is_some, length, slice_index_or, true, unwrap_or, ℕ, ◌&&◌, ◌+◌, ◌∷◌, ◌≡◌, ◌≤◌}
 use Rattle.std.proofs.Common.{ap, arith, refl, subst, sym, ◌∙◌}
-use Rattle.std.proofs.Math.Nat.{min-le_left}
 use Rattle.std.proofs.lemmas.Bool.Decides.{nat_tests}
-use Rattle.std.proofs.lemmas.Bool.{and_parts}
-use Rattle.std.proofs.lemmas.List.Elements.{All-head}
+use Rattle.ol_values.specs.declared.event.Event.{Event}
 use Rattle.ol_values.specs.declared.event.Reply.{Reply}
-use Rattle.ol_values.specs.declared.event.Reply.TheVariants.{Changed, NoRow, NoTxn, RowLocked, Undone}
+use Rattle.ol_values.specs.declared.event.Reply.TheVariants.{BadRid, Changed, NoRow, RowLocked, SpaceDown}
+use Rattle.ol_values.specs.declared.event.Target.{Target}
+use Rattle.ol_values.specs.declared.event.Target.TheVariants.{At, Reg}
+use Rattle.ol_values.specs.declared.history.By.{By}
+use Rattle.ol_values.specs.declared.history.Entry.{Entry}
 use Rattle.ol_values.specs.declared.record.Record.{Record}
-use Rattle.ol_values.specs.declared.record.Record.TheVariants.{Change, Undo}
+use Rattle.ol_values.specs.declared.record.Record.TheVariants.{Change}
 use Rattle.ol_values.specs.declared.record.Rid.{Rid}
 use Rattle.ol_values.specs.declared.row.Row.{Row}
-use Rattle.ol_values.specs.Config.{data_pages, has_page, has_place}
-use Rattle.ol_archive_turns.specs.Ending.{AreNumbered, IsNumbered}
-use Rattle.ol_archive_turns.specs.Turns.{AreAllUp, runs_in}
-use Rattle.ol_cursor.specs.declared.cursor.Cursor.{Cursor}
-use Rattle.ol_engine.specs.Parts.{Registers, Shows, ShowsSeats, behind_of, number_in}
+use Rattle.ol_values.specs.Config.{has_place, space_named}
+use Rattle.ol_engine.specs.Parts.{Registers, ShowsSeats, number_in}
 use Rattle.ol_engine.specs.Turns.{Answers}
 use Rattle.ol_free_slots.proofs.Filling.{change_config, emptied_filled, record_filled}
 use Rattle.ol_free_slots.specs.declared.hints.Hints.{Hints}
 use Rattle.ol_free_slots.specs.Filled.{AreFull}
-use Rattle.ol_values.specs.declared.event.Target.{Target}
 use Rattle.ol_model.specs.Answering.{no_room}
-use Rattle.ol_model.specs.History.{is_faulted}
-use Rattle.ol_model.specs.Machine.{Machine, config_of, holder, row_in}
-use Rattle.ol_model.specs.Machine.{Seat as SessionSeat}
-use Rattle.ol_model.specs.SessionTurns.{change_at, change_turn, target_of}
-use Rattle.ol_turn_laws.proofs.KeptLaws.{unless_keeps}
-use Rattle.ol_turns.proofs.Goes.{calm_unless}
-use Rattle.ol_turns.proofs.Reading.{target_calm}
-use Rattle.ol_model.specs.Steps.{change_row, is_page_in, make_checkpoint, needs_checkpoint, touch}
+use Rattle.ol_model.specs.History.{Steps, is_faulted, state_at}
+use Rattle.ol_model.specs.Machine.{Machine, Seat, config_of as machine_config, holder, row_in, seat_of}
+use Rattle.ol_model.specs.SessionTurns.{change_at, change_turn, place_held, place_in, place_of, target_of}
+use Rattle.ol_model.specs.Steps.{change_row}
+use Rattle.ol_model.specs.Turns.{Given, number_of, turn_of}
 use Rattle.ol_ports.specs.Disk.{Past}
-use Rattle.ol_reserve.specs.declared.anchor.Anchor.{Anchor}
-use Rattle.ol_row_turns.proofs.TakenBack.{back_turn, idle_turn, spent_turn}
-use Rattle.ol_row_turns.specs.Turns.{IsUndoable, Leaves, SameCursors, cursor_in, undone_turn}
-use Rattle.ol_rules.specs.Locks.{Holding}
-use Rattle.ol_running.specs.declared.running.Running.{Running}
-use Rattle.ol_running.specs.Running.{ShowsArchives, running_of}
-use Rattle.ol_storage.specs.Installation.{Installation}
-use Rattle.ol_storage.specs.Installation.{config_of as config_in}
-use Rattle.ol_storage.specs.Storing.{IsStored}
+use Rattle.ol_row_turns.specs.Turns.{row_turn}
+use Rattle.ol_row_turns.specs.declared.owner.Owner.{Owner}
+use Rattle.ol_rules.specs.Lasting.{is_up}
+use Rattle.ol_rules.specs.Sound.{is_value}
+use Rattle.ol_storage.specs.Behind.{is_up as anchor_is_up}
+use Rattle.ol_storage.specs.Installation.{Installation, config_of}
 use Rattle.ol_storage.specs.declared.storage.StorageFault.{StorageFault}
-use Rattle.ol_storage.specs.declared.storage.StorageFault.TheVariants.{Bad, Failed, NoMemory, Stopped}
+use Rattle.ol_storage.specs.declared.storage.StorageFault.TheVariants.{NoMemory}
+use Rattle.ol_turn_laws.proofs.KeptLaws.{unless_keeps}
 use Rattle.ol_turn_laws.proofs.StepLaws.{changed_row}
-use Rattle.ol_turn_laws.specs.Room.{Regular}
-use Rattle.ol_txn.specs.Seats.{IsSession, Seat, last_of, pending_of}
+use Rattle.ol_turn_laws.specs.Room.{HasShortRow}
+use Rattle.ol_txn.specs.Seats.{IsSession, Seat as LockSeat}
 use Rattle.ol_txn.specs.Seats.{seat_of as locks_of}
-use Rattle.ol_turns.specs.Cores.{IsShown, is_there}
-use Rattle.ol_turns.specs.Loosened.{loosened}
+use Rattle.ol_turns.proofs.Goes.{calm_unless, goes_on, ready_of}
+use Rattle.ol_turns.proofs.Undoing.{opened_full}
+use Rattle.ol_turns.proofs.Wholes.{whole_on}
+use Rattle.ol_turns.specs.Cores.{IsGoing, IsShown, IsToldAs, IsWhole, Runs, entry_of, history_of, is_there, machine_of, with_entry}
+use Rattle.ol_turns.specs.Entries.{Noted}
+use Rattle.ol_turns.specs.RowTurns.{hints_behind}
 use Rattle.ol_turns.specs.declared.state.State.{State}
-use Rattle.ol_storage.specs.Behind.{is_up}
 
--- ---- the archives are those, perhaps broken
+-- ---- refusals of targets
 
-runs_by : (space : ℕ) (o p : Option Running) → cursor_in p ≡ cursor_in o → runs_in space p ≡ runs_in space o
-runs_by space None None same = refl
-runs_by space None (Some r) same = absurd (let c : Some r.cursor ≡ None = same in cc)
-runs_by space (Some r) None same = absurd (let c : None ≡ Some r.cursor = same in cc)
-runs_by space (Some r) (Some q) same = let is : q.cursor ≡ r.cursor = (let c : Some q.cursor ≡ Some r.cursor = same in cc) in ap (λ (c : Cursor). runs_in space (Some (record q { cursor = c }))) is
+abbrev IsCalm : Result Rid Reply → Type 0
+IsCalm found = IfErr found (λ q. is_faulted q ≡ false)
 
-pub cursors_up : (a : Anchor) (l n : List (Option Running)) → SameCursors l n → AreAllUp a l → AreAllUp a n
-cursors_up a l n same up k space runs = up k space (sym (runs_by space (running_of l k) (running_of n k) (same k)) ∙ runs)
+place_calm : (m : Machine) (rid : Rid) → IsCalm (place_of m rid)
+place_calm m rid = elim (has_place (machine_config m) rid) as (λ b. IsCalm (if b then (if is_up m.lasting rid.space then Ok rid else Err (SpaceDown rid.space)) else Err BadRid)) [
+  | true ↦ elim (is_up m.lasting rid.space) as (λ b. IsCalm (if b then Ok rid else Err (SpaceDown rid.space))) [ true ↦ tt | false ↦ refl ]
+  | false ↦ refl
+]
 
-numbered_by : (o p : Option Running) → cursor_in p ≡ cursor_in o → IsNumbered o → IsNumbered p
-numbered_by None None same is = tt
-numbered_by None (Some r) same is = absurd (let c : Some r.cursor ≡ None = same in cc)
-numbered_by (Some r) None same is = tt
-numbered_by (Some r) (Some q) same is = let c : r.cursor ≡ q.cursor = (let d : Some q.cursor ≡ Some r.cursor = same in cc) in subst (λ (x : Cursor). IsNumbered (Some (record q { cursor = x }))) c is
+held_calm : (m : Machine) (held : Option Rid) → IsCalm (place_held m held)
+held_calm m None = refl
+held_calm m (Some rid) = place_calm m rid
 
-pub cursors_numbered : (l n : List (Option Running)) → SameCursors l n → AreNumbered l → AreNumbered n
-cursors_numbered l n same are k = numbered_by (running_of l k) (running_of n k) (same k) (are k)
+named_calm : (m : Machine) (page slot : ℕ) (space : Option ℕ) → IsCalm (place_in m page slot space)
+named_calm m page slot None = refl
+named_calm m page slot (Some space) = place_calm m _
 
--- ---- the engine goes on
+target_calm : (m : Machine) (s : Seat) (target : Target) → IsCalm (target_of m s target)
+target_calm m s (Reg reg) = held_calm m (slice_index_or s.registers reg None)
+target_calm m s (At name page slot) = named_calm m page slot (space_named (machine_config m) name)
 
-touched_stopped : (p : ℕ × ℕ) (m : Machine) → (touch p m).stopped ≡ m.stopped
-touched_stopped p m = elim (is_page_in p m.checkpoint.touched) as (λ b. (let n : Machine = if b then m else record m { checkpoint = record m.checkpoint { touched = m.checkpoint.touched ++ p ∷ [] } } in n).stopped ≡ m.stopped) [ true ↦ refl | false ↦ refl ]
+-- ---- replies
 
-ready_stopped : (p : ℕ × ℕ) (m : Machine) → (let n : Machine = if needs_checkpoint m p then make_checkpoint m else m in n).stopped ≡ m.stopped
-ready_stopped p m = elim (needs_checkpoint m p) as (λ b. (let n : Machine = if b then make_checkpoint m else m in n).stopped ≡ m.stopped) [ true ↦ refl | false ↦ refl ]
-
-pub change_stopped : (n : ℕ) (rid : Rid) (r : Record) (m : Machine) → (change_row n rid r m).stopped ≡ m.stopped
-change_stopped n rid r m = touched_stopped (rid.space, rid.page) _ ∙ ready_stopped (rid.space, rid.page) m
-
--- ---- what the parts show
-
-pub change_answers : (earlier : ℕ → Record) (past : Past) (w : Installation) (s : State) (m : Machine) (r : Reply × Machine) (answered : Result Reply StorageFault)
-    → Answers m (Shows s.opened w s.locks s.registers) r answered → Leaves m (λ n. ShowsArchives s.archives w.store.before n) r.1 answered → OnOk answered (IsStored past w (behind_of earlier r.1)) → (IsErrOf answered NoMemory → IsStored past w (behind_of earlier m))
-    → AreFull s.hints m → AreFull s.hints r.1 → m.stopped ≡ None → r.1.stopped ≡ None → Answers m (λ k. IsShown earlier past w s k) r answered
-change_answers earlier past w s m r (Ok q) (is, shows) archives stored memory before after going goes = (is, record { shows = shows; archives = archives; stored = stored; full = after; going = goes })
-change_answers earlier past w s m r (Err Failed) last archives stored memory before after going goes = last
-change_answers earlier past w s m r (Err (Bad chunk page)) last archives stored memory before after going goes = last
-change_answers earlier past w s m r (Err NoMemory) shows archives stored memory before after going goes = record { shows = shows; archives = archives; stored = memory refl; full = before; going = going }
-change_answers earlier past w s m r (Err Stopped) last archives stored memory before after going goes = last
-
--- ---- a change is taken back
-
-there_parts : (v : Installation) (rid : Rid) → is_there v rid ≡ true → (has_place (config_in v) rid ≡ true) × (is_up v.anchor rid.space ≡ true)
-there_parts v rid is = and_parts (has_place (config_in v) rid) (is_up v.anchor rid.space) is
-
--- the newest change's place is there
-newest_there : (v : Installation) (o : Option Holding) → ((h : Holding) → o ≡ Some h → All (λ (p : Rid × Option Row). is_there v p.0 ≡ true) h.pending) → IfSome (slice_get (pending_of o) 0) (λ (p : Rid × Option Row). is_there v p.0 ≡ true)
-newest_there v None are = tt
-newest_there v (Some h) are = go h.pending (are h refl)
-  where
-    go : (l : List (Rid × Option Row)) → All (λ (p : Rid × Option Row). is_there v p.0 ≡ true) l → IfSome (slice_get l 0) (λ (p : Rid × Option Row). is_there v p.0 ≡ true)
-    go [] all = tt
-    go (p ∷ rest) all = All-head (λ (p : Rid × Option Row). is_there v p.0 ≡ true) p rest all
-
-pub undoable : (v : Installation) (s : Seat) → ((h : Holding) → s.holding ≡ Some h → All (λ (p : Rid × Option Row). is_there v p.0 ≡ true) h.pending) → IsUndoable v (last_of s)
-undoable v s are = go (last_of s) (newest_there v s.holding are)
-  where
-    go : (o : Option (Rid × Option Row)) → IfSome o (λ (p : Rid × Option Row). is_there v p.0 ≡ true) → IsUndoable v o
-    go None is = tt
-    go (Some p) is = there_parts v p.0 is
-
-pub undo_small : (v : Installation) (s : Seat) → length (config_in v).spaces ≤ 16 → ((h : Holding) → s.holding ≡ Some h → All (λ (p : Rid × Option Row). is_there v p.0 ≡ true) h.pending) → IfSome (last_of s) (λ (p : Rid × Option Row). p.0.space < 16)
-undo_small v s few are = go (last_of s) (newest_there v s.holding are)
-  where
-    go : (o : Option (Rid × Option Row)) → IfSome o (λ (p : Rid × Option Row). is_there v p.0 ≡ true) → IfSome o (λ (p : Rid × Option Row). p.0.space < 16)
-    go None is = tt
-    go (Some p) is =
-        let place = (there_parts v p.0 is).0 in
-        let page : has_page (config_in v) p.0.space p.0.page ≡ true = (and_parts (has_page (config_in v) p.0.space p.0.page) (nat_lt p.0.slot 31) place).0 in
-        let space : nat_lt p.0.space (length (config_in v).spaces) ≡ true = (and_parts (nat_lt p.0.space (length (config_in v).spaces)) (nat_lt p.0.page (data_pages (config_in v) p.0.space)) page).0 in
-        grind (arith, nat_tests, space, few)
-
--- the turn is refused, or takes the newest change back
-pub undo_cases : (P : Reply × Machine → Type 0) (seats : List Seat) (registers : Registers) (m : Machine) (k n : ℕ) → IsSession k → Regular m → ShowsSeats seats registers m
-    → P (NoTxn, m) → ((txn : ℕ) (p : Rid × Option Row) → last_of (locks_of seats k) ≡ Some p → P (Undone p.0, change_row n p.0 (Undo txn p.0 p.1) m)) → P (undone_turn m n k)
-undo_cases P seats registers m k n session regular shows none some = by_number (number_in (locks_of seats k).holding) refl
-  where
-    by_last : (txn : ℕ) → number_in (locks_of seats k).holding ≡ Some txn → (o : Option (Rid × Option Row)) → last_of (locks_of seats k) ≡ o → P (undone_turn m n k)
-    by_last txn is None last = subst P (sym (spent_turn seats registers m k n txn session regular shows is last)) none
-    by_last txn is (Some p) last = subst P (sym (back_turn seats registers m k n txn p session regular shows is last)) (some txn p last)
-
-    by_number : (o : Option ℕ) → number_in (locks_of seats k).holding ≡ o → P (undone_turn m n k)
-    by_number None is = subst P (sym (idle_turn seats registers m k n session shows is)) none
-    by_number (Some txn) is = by_last txn is (last_of (locks_of seats k)) refl
-
--- a number that is lowered leaves none greater
-lowered : (l : List ℕ) (i j p : ℕ) → slice_index (slice_set l i (min (slice_index l i) p)) j ≤ slice_index l j
-lowered [] i j p = omega arith
-lowered (x ∷ l) zero zero p = min-le_left x p
-lowered (x ∷ l) zero (suc j) p = omega arith
-lowered (x ∷ l) (suc i) zero p = omega arith
-lowered (x ∷ l) (suc i) (suc j) p = lowered l i j p
-
-pub loosened_full : (h : Hints) (o : Option (Rid × Option Row)) (m : Machine) → AreFull h m → AreFull (loosened h o) m
-loosened_full h None m full = full
-loosened_full h (Some p) m full = record { filled = λ space page slot there below. full.filled space page slot there (omega (arith, below, lowered h.first p.0.space space p.0.page)) }
-
-pub undone_full : (h : Hints) (o : Option (Rid × Option Row)) (n txn : ℕ) (p : Rid × Option Row) (m : Machine) → o ≡ Some p → AreFull h m → AreFull (loosened h o) (change_row n p.0 (Undo txn p.0 p.1) m)
-undone_full h o n txn p m is full =
-    let r : Record = Undo txn p.0 p.1 in
-    subst (λ (x : Option (Rid × Option Row)). AreFull (loosened h x) (change_row n p.0 r m)) (sym is)
-    (emptied_filled h (config_of m) (config_of (change_row n p.0 r m)) (row_in m) (row_in (change_row n p.0 r m)) p.0 p.1 (change_config n p.0 r m) (λ at. changed_row n p.0 r m at) full)
-
--- ---- a row changes
-
-change_at_calm : (m : Machine) (n k txn : ℕ) (after : Option Row) (place : Result Rid Reply) → IfErr place (λ refusal. is_faulted refusal ≡ false) → is_faulted (change_at m n k txn after place).0 ≡ false
+change_at_calm : (m : Machine) (n k txn : ℕ) (after : Option Row) (found : Result Rid Reply) → IsCalm found → is_faulted (change_at m n k txn after found).0 ≡ false
 change_at_calm m n k txn after (Err refusal) calm = calm
 change_at_calm m n k txn after (Ok rid) calm =
     calm_unless m ((is_some (holder m k true rid), RowLocked (unwrap_or (holder m k true rid) 0)) ∷ (is_none (row_in m rid), NoRow) ∷ no_room m) (Changed rid, change_row n rid (Change txn rid (row_in m rid) after) m) (refl, (refl, (refl, (refl, tt)))) refl
 
-pub change_calm : (m : Machine) (n k : ℕ) (s : SessionSeat) (open_ : Option ℕ) (target : Target) (after : Option Row) → is_faulted (change_turn m n k s open_ target after).0 ≡ false
+pub change_calm : (m : Machine) (n k : ℕ) (s : Seat) (txn : Option ℕ) (target : Target) (after : Option Row) → is_faulted (change_turn m n k s txn target after).0 ≡ false
 change_calm m n k s None target after = refl
 change_calm m n k s (Some txn) target after = change_at_calm m n k txn after (target_of m s target) (target_calm m s target)
 
--- what the state and each change of a row keep, the turn keeps
-pub change_keeps : (P : Machine → Type 0) (m : Machine) (n k : ℕ) (s : SessionSeat) (open_ : Option ℕ) (target : Target) (after : Option Row) → P m → ((txn : ℕ) (rid : Rid) (before : Option Row) → P (change_row n rid (Change txn rid before after) m)) → P (change_turn m n k s open_ target after).1
-change_keeps P m n k s None target after here row = here
-change_keeps P m n k s (Some txn) target after here row = at (target_of m s target)
-  where
-    at : (place : Result Rid Reply) → P (change_at m n k txn after place).1
-    at (Err refusal) = here
-    at (Ok rid) = unless_keeps P m ((is_some (holder m k true rid), RowLocked (unwrap_or (holder m k true rid) 0)) ∷ (is_none (row_in m rid), NoRow) ∷ no_room m) (Changed rid, change_row n rid (Change txn rid (row_in m rid) after) m) here (row txn rid (row_in m rid))
+-- ---- the row
 
--- a row that takes another's place leaves full pages full
-pub updated_full : (h : Hints) (n txn : ℕ) (rid : Rid) (before : Option Row) (row : Row) (m : Machine) → AreFull h m → AreFull h (change_row n rid (Change txn rid before (Some row)) m)
-updated_full h n txn rid before row m full =
+-- what holds of the state and behind the change holds of what the turn leaves
+pub row_kept : (P : Machine → Type 0) (m : Machine) (o : Owner) (rid : Rid) (after : Option Row) → P m → P (change_row o.entry rid (Change o.txn rid (row_in m rid) after) m) → P (row_turn m o rid after).1
+row_kept P m o rid after before behind =
+    unless_keeps P m ((is_some (holder m o.session true rid), RowLocked (unwrap_or (holder m o.session true rid) 0)) ∷ (is_none (row_in m rid), NoRow) ∷ no_room m) (Changed rid, change_row o.entry rid (Change o.txn rid (row_in m rid) after) m) before behind
+
+-- the turn of an open transaction whose target was found
+pub found_row : (seats : List LockSeat) (registers : Registers) (m : Machine) (n : ℕ) (o : Owner) (target : Target) (rid : Rid) (after : Option Row) → IsSession o.session → ShowsSeats seats registers m → number_in (locks_of seats o.session).holding ≡ Some o.txn → target_of m (seat_of m o.session) target ≡ Ok rid → o.entry ≡ n
+    → change_turn m n o.session (seat_of m o.session) (seat_of m o.session).txn target after ≡ row_turn m o rid after
+found_row seats registers m n o target rid after session shows open_is found entry =
+    ap (λ (t : Option ℕ). change_turn m n o.session (seat_of m o.session) t target after) (sym (shows.numbers o.session session.0 session.1) ∙ open_is)
+    ∙ ap (λ (f : Result Rid Reply). change_at m n o.session o.txn after f) found
+    ∙ ap (λ (i : ℕ). change_at m i o.session o.txn after (Ok rid)) (sym entry)
+
+pub place_there : (v : Installation) (rid : Rid) → has_place (config_of v) rid ≡ true → anchor_is_up v.anchor rid.space ≡ true → is_there v rid ≡ true
+place_there v rid place up = ap (λ (b : Bool). b && anchor_is_up v.anchor rid.space) place ∙ up
+
+-- ---- hints
+
+pub behind_full : (after : Option Row) (rid : Rid) (h : Hints) (m : Machine) → AreFull h m → AreFull (hints_behind after rid h) m
+behind_full None rid h m is = opened_full (Some (rid, None)) h m is
+behind_full (Some row) rid h m is = is
+
+pub changed_full : (h : Hints) (m : Machine) (n txn : ℕ) (rid : Rid) (before after : Option Row) → AreFull h m → AreFull (hints_behind after rid h) (change_row n rid (Change txn rid before after) m)
+changed_full h m n txn rid before None is =
+    let r : Record = Change txn rid before None in
+    emptied_filled h (machine_config m) (machine_config (change_row n rid r m)) (row_in m) (row_in (change_row n rid r m)) rid None (change_config n rid r m) (λ at. changed_row n rid r m at) is
+changed_full h m n txn rid before (Some row) is =
     let r : Record = Change txn rid before (Some row) in
-    record_filled h (config_of m) (config_of (change_row n rid r m)) (row_in m) (row_in (change_row n rid r m)) r (change_config n rid r m) refl (λ at. changed_row n rid r m at) full
+    record_filled h (machine_config m) (machine_config (change_row n rid r m)) (row_in m) (row_in (change_row n rid r m)) r (change_config n rid r m) refl (λ at. changed_row n rid r m at) is
+
+-- ---- rows
+
+pub short_row : (row : Row) → length row ≤ 63 → is_value (Some row) ≡ true
+short_row row limit = grind (arith, nat_tests, limit)
+
+-- ---- a turn over the parts and the state
+
+-- with room for entries made the parts are in order
+pub reserved_going : (faults : ℕ → ℕ) (v : Installation) (s : State) (n : Noted) → n.entries ≡ history_of s → IsGoing (length (history_of s)) faults v s → IsGoing (length n.entries) faults v (record s { entries = n })
+reserved_going faults v s n same is = subst (λ (h : List Entry). IsGoing (length h) faults v (record s { entries = n })) (sym same)
+    (record { going = is.going; turns = is.turns; places = is.places; up = is.up; numbers = is.numbers; low = is.low; table = is.table; counts = is.counts })
+
+-- one that leaves the history to its entry
+pub taken_whole : {E : Type 0} (faults now : ℕ → ℕ) (w : Installation) (s t : State) (by : By) (event : Event) (start calls : ℕ) (answered : Result Reply StorageFault) (result : Result Reply E) (new : State) → t.entries ≡ s.entries
+    → OnOk answered (IsGoing (length (history_of s) + 1) now w t) → (IsErrOf answered NoMemory → IsGoing (length (history_of s)) now w t)
+    → IsToldAs answered result → IfOk result (λ reply. new ≡ with_entry t (entry_of t by event start calls reply)) → OnErr result (new ≡ t)
+    → IsWhole now w new
+taken_whole faults now w s t by event start calls answered result new same good starved told ok err =
+    whole_on faults now w t by event start calls answered result new
+    (subst (λ (n : Noted). OnOk answered (IsGoing (length n.entries + 1) now w t)) (sym same) good) (λ memory. subst (λ (n : Noted). IsGoing (length n.entries) now w t) (sym same) (starved memory)) told ok err
+
+pub taken_runs : {E : Type 0} (earlier : ℕ → Record) (begun : Machine) (past now : Past) (v w : Installation) (s t : State) (by : By) (event : Event) (start calls : ℕ) (r : Reply × Machine) (answered : Result Reply StorageFault) (result : Result Reply E) (new : State)
+    → Runs earlier begun past v s → s.stopped ≡ None → t.entries ≡ s.entries → t.stopped ≡ s.stopped
+    → ((g : Given) → turn_of [] g (machine_of begun s) (length (history_of s) + 1) (number_of by.actor) event ≡ r) → is_faulted r.0 ≡ false → HasShortRow event
+    → Answers (machine_of begun s) (λ k. IsShown earlier now w t k) r answered → IsToldAs answered result
+    → IfOk result (λ reply. new ≡ with_entry t (entry_of t by event start calls reply)) → OnErr result (new ≡ t)
+    → Runs earlier begun now w new
+taken_runs earlier begun past now v w s t by event start calls r answered result new runs going same stops turns calm short answers told ok err =
+    let m = machine_of begun s in
+    goes_on earlier begun now w t by event start calls m r answered result new
+    (subst (λ (n : Noted). Steps [] begun 1 n.entries) (sym same) runs.steps) (ap (λ (n : Noted). state_at [] begun n.entries) same) (stops ∙ going) (ready_of earlier past v s m (runs.told going))
+    (λ g. ap (λ (n : Noted). turn_of [] g m (length n.entries + 1) (number_of by.actor) event) same ∙ turns g) calm short answers told ok err

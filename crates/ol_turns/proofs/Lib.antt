@@ -3,7 +3,9 @@ pub mod Begins
 pub mod Besides
 pub mod Changing
 pub mod Goes
+pub mod Inserting
 pub mod Named
 pub mod Reading
 pub mod RowReads
+pub mod Undoing
 pub mod Wholes

@@ -5,12 +5,11 @@ use Rattle.ol_values.specs.declared.event.Reply.{Reply}
 use Rattle.ol_values.specs.declared.event.Reply.TheVariants.{NoTxn}
 use Rattle.ol_values.specs.declared.event.Target.{Target}
 use Rattle.ol_values.specs.declared.record.Rid.{Rid}
-use Rattle.ol_values.specs.declared.row.Row.{Row}
 use Rattle.ol_rules.specs.Locks.{Holding}
 use Rattle.ol_engine.specs.Parts.{Registers, ShowsSeats, number_in}
 use Rattle.ol_model.specs.Machine.{Machine, config_of, seat_of}
 use Rattle.ol_model.specs.Machine.{Seat as SessionSeat}
-use Rattle.ol_model.specs.SessionTurns.{change_at, change_turn, list_turn, read_at, read_turn, target_of}
+use Rattle.ol_model.specs.SessionTurns.{list_turn, read_at, read_turn, target_of}
 use Rattle.ol_targets.proofs.TurnLaws.{list_led}
 use Rattle.ol_targets.specs.Naming.{list_found, page_of}
 use Rattle.ol_values.specs.Config.{space_named}
@@ -51,8 +50,3 @@ list_none m k s txn name page none = ap (λ (o : Option ℕ). list_turn m k s o 
 pub list_named : (m : Machine) (k : ℕ) (s : SessionSeat) (txn : Option ℕ) (n : ℕ) (name : List ℕ) (page : ℕ) (found : Result (ℕ × ℕ) Reply) → txn ≡ Some n → found ≡ page_of m page (space_named (config_of m) name) → list_turn m k s txn name page ≡ list_found m k s found
 list_named m k s txn n name page found some named =
     ap (λ (o : Option ℕ). list_turn m k s o name page) some ∙ list_led m k s page (space_named (config_of m) name) ∙ ap (λ (p : Result (ℕ × ℕ) Reply). list_found m k s p) (sym named)
-
--- ---- changes
-
-pub change_named : (m : Machine) (n k : ℕ) (s : SessionSeat) (open_ : Option ℕ) (txn : ℕ) (target : Target) (after : Option Row) (place : Result Rid Reply) → open_ ≡ Some txn → place ≡ target_of m s target → change_turn m n k s open_ target after ≡ change_at m n k txn after place
-change_named m n k s open_ txn target after place some named = ap (λ (o : Option ℕ). change_turn m n k s o target after) some ∙ ap (λ (p : Result Rid Reply). change_at m n k txn after p) (sym named)

@@ -1,4 +1,4 @@
 pub mod Actors
 pub mod Cores
 pub mod Entries
-pub mod Loosened
+pub mod RowTurns

@@ -4,16 +4,15 @@
 mod answers;
 mod archive_starts;
 mod archive_turns;
-mod changes;
 mod engine;
 mod entries;
 mod lists;
 mod log_turns;
 mod reads;
 mod registers;
+mod row_turns;
 mod session_turns;
 mod state;
-mod undoing;
 
 pub use engine::Core;
 pub use entries::Entries;
